@@ -1,0 +1,20 @@
+//! What every layer shares: lists and names that contracts see as lists, want of memory, equal
+//! copies, and the data of a RAM library.
+#![tactic(auto)]
+
+pub mod duplicate;
+pub mod library;
+pub mod list;
+pub mod memory;
+pub mod name;
+#[cfg(test)]
+mod tests;
+
+pub use duplicate::Duplicate;
+pub use library::{
+    Budget, Choice, EdgeKind, Fill, Group, Library, OwnWrite, PortKind, Property, RamClass,
+    RamKind, Seen, SrstGate, Trans, Tri, Value, Variant,
+};
+pub use list::List;
+pub use memory::Memory;
+pub use name::Name;

@@ -1,0 +1,15 @@
+//! A design as data: modules of wires, logic cells, registers, memories and RAM cells over nets.
+#![tactic(auto)]
+
+pub mod bits;
+pub mod cells;
+mod copies;
+pub mod mems;
+pub mod modules;
+pub mod rams;
+
+pub use bits::{Bit, Clock, Edge, Event};
+pub use cells::{Carried, Comb, CombKind, FfKind, Pin, Reg};
+pub use mems::{Attr, Mem, MemJob, Pair, Place, RdPort, Style, WrPort};
+pub use modules::{Design, MemPart, Module, Wire};
+pub use rams::{RamCell, SlotUse};
