@@ -1,0 +1,5 @@
+pub mod Cells
+pub mod Logic
+pub mod Memory
+pub mod Ram
+pub mod Values
