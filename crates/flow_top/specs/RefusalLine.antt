@@ -1,0 +1,73 @@
+-- The line that a refused command leaves.
+use Rattle.std.specs.Prelude.{◌≡◌, ℕ, Bool, true, false, List, [], ◌∷◌, Option, codes, ◌⊎◌}
+use Rattle.std.specs.Fmt.{decimal}
+use Rattle.flow_io.specs.Files.{Files, put, HoldsPart}
+use Rattle.flow_io.specs.Causes.{Rose}
+use Rattle.flow_top.specs.ExitStatus.{exit_of}
+use Rattle.flow_top.specs.Joining.{joined}
+use Rattle.flow_top.specs.declared.status.DesignCode.{DesignCode}
+use Rattle.flow_top.specs.declared.status.DesignCode.TheVariants as design
+use Rattle.flow_top.specs.declared.status.LibCode.{LibCode}
+use Rattle.flow_top.specs.declared.status.LibCode.TheVariants as library
+use Rattle.flow_top.specs.declared.status.Status.{Status}
+use Rattle.flow_top.specs.declared.status.Status.TheVariants.{Ok, Usage, ReadFault, WriteFault, Design, Library, NoFit, Limit, Memory}
+
+abbrev pub design_fault : DesignCode → ℕ
+design_fault design.NotYet = 90
+
+abbrev pub library_fault : LibCode → ℕ
+library_fault library.NotYet = 90
+
+-- the number of the fault in a status, 0 where it has none
+abbrev pub fault_of : Status → ℕ
+fault_of (Design inside name line code) = design_fault code
+fault_of (Library line code) = library_fault code
+fault_of other = 0
+
+-- the line in a status, 0 where it has none
+abbrev pub line_in : Status → ℕ
+line_in (Design inside name line code) = line
+line_in (Library line code) = line
+line_in other = 0
+
+-- a name, or - for none
+abbrev pub shown_name : List ℕ → List ℕ
+shown_name [] = codes "-"
+shown_name (byte ∷ bytes) = byte ∷ bytes
+
+-- the name in a status, - where it has none
+abbrev pub name_of : Status → List ℕ
+name_of (Design inside name line code) = shown_name name
+name_of (NoFit inside memory) = shown_name memory
+name_of other = codes "-"
+
+-- the word refused, the exit status, the fault, the line and the name, and a line feed
+abbrev pub refusal_line : Status → List ℕ
+refusal_line status =
+    joined (codes "refused " ∷ decimal (exit_of status) ∷ codes " " ∷ decimal (fault_of status) ∷ codes " " ∷ decimal (line_in status) ∷ codes " " ∷ name_of status ∷ (10 ∷ []) ∷ [])
+
+-- the line stands in the file, or a write failed and the file holds what it held or a part of the line
+abbrev pub LineLeft : Option Files → Option Files → List ℕ → List ℕ → ℕ → ℕ → Type 0
+LineLeft old new name line before now = (new ≡ put old name line) ⊎ (Rose before now × HoldsPart old new name line)
+
+-- the input was read and refused
+abbrev pub is_refusal : Status → Bool
+is_refusal Ok = false
+is_refusal Usage = false
+is_refusal ReadFault = false
+is_refusal WriteFault = false
+is_refusal (Design inside name line code) = true
+is_refusal (Library line code) = true
+is_refusal (NoFit inside memory) = true
+is_refusal (Limit counts seen) = true
+is_refusal Memory = false
+
+-- a status that is no refusal is handed on, and nothing is written; a refusal is handed on with its line left, or memory
+-- was wanted for that, and nothing is written
+abbrev pub RefusedBy : Bool → List ℕ → Option Files → Option Files → ℕ → ℕ → Status → Status → Type 0
+RefusedBy false report old new before now status result = (result ≡ status) × (new ≡ old)
+RefusedBy true report old new before now status result =
+    ((result ≡ status) × LineLeft old new report (refusal_line status) before now) ⊎ ((result ≡ Memory) × (new ≡ old))
+
+abbrev pub Refused : List ℕ → Option Files → Option Files → ℕ → ℕ → Status → Status → Type 0
+Refused report old new before now status result = RefusedBy (is_refusal status) report old new before now status result

@@ -1,0 +1,106 @@
+//! The line that a refused command leaves.
+ghost use Rattle.std.specs.Prelude.{◌≡◌, ◌⊎◌, ◌≤◌, IfOk};
+ghost use Rattle.flow_top.specs.RefusalLine.{refusal_line, name_of, fault_of, line_in, shown_name, is_refusal, LineLeft, Refused};
+
+use crate::joining::{decimal, joined};
+use crate::status::{DesignCode, LibCode, Status};
+use flow_io::{Desk, DeskFault};
+use lib_core::Memory;
+use std::alloc::Global;
+
+/// The number of the fault in a status, 0 where it has none.
+fn fault_of(status: &Status) -> u64
+    ensures { result ≡ fault_of status.now }
+{
+    match status {
+        Status::Design {
+            code: DesignCode::NotYet,
+            ..
+        } => 90,
+        Status::Library {
+            code: LibCode::NotYet,
+            ..
+        } => 90,
+        _ => 0,
+    }
+}
+
+/// The line in a status, 0 where it has none.
+fn line_in(status: &Status) -> u32
+    ensures { result ≡ line_in status.now }
+{
+    match status {
+        Status::Design { line, .. } => *line,
+        Status::Library { line, .. } => *line,
+        _ => 0,
+    }
+}
+
+/// A name, or `-` for none.
+fn shown_name(name: &[u8]) -> &[u8]
+    ensures { result.now ≡ shown_name name.now }
+{
+    if name.is_empty() { b"-" } else { name }
+}
+
+/// The name in a status, `-` where it has none.
+fn name_of(status: &Status) -> &[u8]
+    ensures { result.now ≡ name_of status.now }
+{
+    match status {
+        Status::Design { name, .. } => shown_name(name.as_slice()),
+        Status::NoFit { memory, .. } => shown_name(memory.as_slice()),
+        _ => b"-",
+    }
+}
+
+/// The line of a status, ended by a line feed.
+pub fn refusal_line(alloc: Global, status: &Status) -> Result<Vec<u8>, Memory>
+    ensures { IfOk result (λ line. line.items ≡ refusal_line status.now) }
+{
+    let exit = decimal(alloc, u64::from(status.exit_status()))?;
+    let fault = decimal(alloc, fault_of(status))?;
+    let line = decimal(alloc, u64::from(line_in(status)))?;
+    joined(
+        alloc,
+        &[
+            b"refused ".as_slice(),
+            exit.as_slice(),
+            b" ".as_slice(),
+            fault.as_slice(),
+            b" ".as_slice(),
+            line.as_slice(),
+            b" ".as_slice(),
+            name_of(status),
+            b"\n".as_slice(),
+        ],
+    )
+}
+
+/// Whether the input was read and refused, so that a line is left.
+fn is_refusal(status: &Status) -> bool
+    ensures { result ≡ is_refusal status.now }
+{
+    matches!(
+        status,
+        Status::Design { .. } | Status::Library { .. } | Status::NoFit { .. } | Status::Limit { .. }
+    )
+}
+
+/// Leaves the line of a refusal in a file, and hands the status on. Any other status leaves nothing.
+pub fn refuse<D: Desk>(alloc: Global, status: Status, report: &str, desk: &mut D) -> Status
+    ensures refused { Refused report.now (D.files desk.old) (D.files desk.new) (D.write_faults desk.old) (D.write_faults desk.new) status result }
+    ensures reads_later { D.read_faults desk.old ≤ D.read_faults desk.new }
+    ensures writes_later { D.write_faults desk.old ≤ D.write_faults desk.new }
+{
+    if !is_refusal(&status) {
+        return status;
+    }
+    let Ok(line) = refusal_line(alloc, &status) else {
+        return Status::Memory;
+    };
+    match desk.write_file(alloc, report, line.as_slice()) {
+        Err(DeskFault::Memory) => Status::Memory,
+        _ => status,
+    }
+}

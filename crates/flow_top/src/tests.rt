@@ -1,0 +1,353 @@
+use crate::{Counted, Status, refusal_line, run};
+use flow_io::{DeskFile, MemDesk};
+use lib_core::{List, Name};
+use std::alloc::{AllocError, Global};
+use std::test::Fail;
+
+/// A memory of words with one write port and one read port.
+#[derive(Clone, Copy)]
+struct Form<'a> {
+    size: u32,
+    abits: u32,
+    width: u32,
+    polarity: u32,
+    enables: &'a str,
+    cost: u32,
+}
+
+const SIXTEEN_BY_FOUR: Form<'static> = Form {
+    size: 16,
+    abits: 4,
+    width: 4,
+    polarity: 1,
+    enables: "\\we \\we \\we \\we",
+    cost: 4,
+};
+
+fn design_text(alloc: Global, form: Form<'_>) -> Result<String, AllocError> {
+    let Form {
+        size,
+        abits,
+        width,
+        polarity,
+        enables,
+        cost: _,
+    } = form;
+    let bits = size.saturating_mul(width);
+    format!(in alloc;
+        "module \\top
+  wire input 1 \\clk
+  wire input 2 \\we
+  wire width {abits} input 3 \\wa
+  wire width {width} input 4 \\wd
+  wire width {abits} input 5 \\ra
+  wire width {width} output 6 \\q
+  cell $mem_v2 $m
+    parameter \\MEMID \"\\\\m\"
+    parameter \\SIZE {size}
+    parameter \\OFFSET 0
+    parameter \\ABITS {abits}
+    parameter \\WIDTH {width}
+    parameter \\INIT {bits}'x
+    parameter \\RD_PORTS 1
+    parameter \\RD_CLK_ENABLE 1'0
+    parameter \\RD_CLK_POLARITY 1'0
+    parameter \\RD_TRANSPARENCY_MASK 1'0
+    parameter \\RD_COLLISION_X_MASK 1'0
+    parameter \\RD_WIDE_CONTINUATION 1'0
+    parameter \\RD_CE_OVER_SRST 1'0
+    parameter \\RD_ARST_VALUE {width}'x
+    parameter \\RD_SRST_VALUE {width}'x
+    parameter \\RD_INIT_VALUE {width}'x
+    parameter \\WR_PORTS 1
+    parameter \\WR_CLK_ENABLE 1'1
+    parameter \\WR_CLK_POLARITY 1'{polarity}
+    parameter \\WR_PRIORITY_MASK 1'0
+    parameter \\WR_WIDE_CONTINUATION 1'0
+    connect \\RD_CLK 1'x
+    connect \\RD_EN 1'1
+    connect \\RD_ARST 1'0
+    connect \\RD_SRST 1'0
+    connect \\RD_ADDR \\ra
+    connect \\RD_DATA \\q
+    connect \\WR_CLK \\clk
+    connect \\WR_EN {{ {enables} }}
+    connect \\WR_ADDR \\wa
+    connect \\WR_DATA \\wd
+  end
+end
+"
+    )
+}
+
+fn library_text(alloc: Global, cost: u32) -> Result<String, AllocError> {
+    format!(in alloc;
+        "ram distributed $__R16X4_ {{
+    abits 4;
+    width 4;
+    cost {cost};
+    init any;
+    port sw \"W\" {{ clock posedge; }}
+    port ar \"R\" {{ }}
+}}
+"
+    )
+}
+
+fn file(alloc: Global, name: &[u8], bytes: &[u8]) -> Result<DeskFile, AllocError> {
+    Ok(DeskFile {
+        name: Name::from_vec(Vec::from_slice(alloc, name)?),
+        bytes: List::from_vec(Vec::from_slice(alloc, bytes)?),
+    })
+}
+
+fn desk(
+    alloc: Global,
+    design: &[u8],
+    library: &[u8],
+    fails: &[u64],
+) -> Result<MemDesk, AllocError> {
+    let mut files = Vec::new(alloc);
+    files.push(file(alloc, b"d", design)?)?;
+    files.push(file(alloc, b"l", library)?)?;
+    let fails = List::from_vec(Vec::from_slice(alloc, fails)?);
+    Ok(MemDesk::new(List::from_vec(files), fails))
+}
+
+fn form_desk(alloc: Global, form: Form<'_>, fails: &[u64]) -> Result<MemDesk, AllocError> {
+    let design = design_text(alloc, form)?;
+    let library = library_text(alloc, form.cost)?;
+    desk(alloc, design.as_bytes(), library.as_bytes(), fails)
+}
+
+fn words(alloc: Global, line: &str) -> Result<Vec<String>, AllocError> {
+    let mut words = Vec::new(alloc);
+    for word in line.split_whitespace() {
+        words.push(String::from_str(alloc, word)?)?;
+    }
+    Ok(words)
+}
+
+fn has(desk: &MemDesk, name: &str, text: &[u8]) -> bool {
+    match desk.file(name) {
+        Some(bytes) => bytes == text,
+        None => false,
+    }
+}
+
+/// The lines of the report but for its points.
+const FIRST_LINES: &str = "memory \\top \\m
+ram $__R16X4_ variant 0 fold 0 level 0 copies 1 rows 1 columns 1
+write 0 W
+read 0 R copy 0
+";
+
+#[test]
+fn reports(rt: HostRuntime) -> Result<(), Fail> {
+    let alloc = rt.alloc();
+    let words = words(alloc, "map d l i n r 1")?;
+    let narrow = Form {
+        width: 3,
+        enables: "\\we \\we \\we",
+        ..SIXTEEN_BY_FOUR
+    };
+    let dear = Form {
+        cost: 5,
+        ..SIXTEEN_BY_FOUR
+    };
+    for (form, points) in [(SIXTEEN_BY_FOUR, 64u32), (dear, 80), (narrow, 64)] {
+        let mut desk = form_desk(alloc, form, &[])?;
+        assert_eq!(rt; run(&rt, alloc, words.as_slice(), &mut desk), Status::Ok);
+        let report = format!(in alloc; "{FIRST_LINES}points {points}\ntotal {points}\n")?;
+        assert!(rt; has(&desk, "r", report.as_bytes()));
+        assert!(rt; has(&desk, "i", design_text(alloc, form)?.as_bytes()));
+    }
+    Ok(())
+}
+
+/// The netlist of three-bit words in a RAM of four-bit words.
+const NARROW: &str = "module \\top
+  wire input 1 \\clk
+  wire input 2 \\we
+  wire width 4 input 3 \\wa
+  wire width 3 input 4 \\wd
+  wire width 4 input 5 \\ra
+  wire width 3 output 6 \\q
+  wire width 1 $net
+  cell $__R16X4_ $ram.0.0.0\\m
+    parameter \\INIT 64'xxxxxxxxxxxxxxxxxxxxxxxxxxxxxxxxxxxxxxxxxxxxxxxxxxxxxxxxxxxxxxxx
+    parameter \\PORT_W_USED 1
+    parameter \\PORT_R_USED 1
+    connect \\PORT_W_CLK \\clk
+    connect \\PORT_W_ADDR \\wa
+    connect \\PORT_W_WR_DATA { 1'0 \\wd }
+    connect \\PORT_W_WR_EN \\we
+    connect \\PORT_R_ADDR \\ra
+    connect \\PORT_R_RD_DATA { $net \\q }
+  end
+end
+";
+
+#[test]
+fn narrow_netlist(rt: HostRuntime) -> Result<(), Fail> {
+    let alloc = rt.alloc();
+    let words = words(alloc, "map d l i n r 64")?;
+    let narrow = Form {
+        width: 3,
+        enables: "\\we \\we \\we",
+        ..SIXTEEN_BY_FOUR
+    };
+    let mut desk = form_desk(alloc, narrow, &[])?;
+    assert_eq!(rt; run(&rt, alloc, words.as_slice(), &mut desk), Status::Ok);
+    assert!(rt; has(&desk, "n", NARROW.as_bytes()));
+    Ok(())
+}
+
+#[test]
+fn no_fit(rt: HostRuntime) -> Result<(), Fail> {
+    let alloc = rt.alloc();
+    let words = words(alloc, "map d l i n r 1")?;
+    let deep = Form {
+        size: 64,
+        abits: 6,
+        ..SIXTEEN_BY_FOUR
+    };
+    let falling = Form {
+        polarity: 0,
+        ..SIXTEEN_BY_FOUR
+    };
+    for form in [deep, falling] {
+        let mut desk = form_desk(alloc, form, &[])?;
+        assert_eq!(rt;
+            run(&rt, alloc, words.as_slice(), &mut desk).exit_status(),
+            7
+        );
+        assert!(rt; has(&desk, "r", b"refused 7 0 0 \\m\n"));
+        assert!(rt; desk.file("i").is_none());
+        assert!(rt; desk.file("n").is_none());
+    }
+    Ok(())
+}
+
+#[test]
+fn unknown_forms(rt: HostRuntime) -> Result<(), Fail> {
+    let alloc = rt.alloc();
+    let words = words(alloc, "map d l i n r 1")?;
+    let design = design_text(alloc, SIXTEEN_BY_FOUR)?;
+    let wordy = Form {
+        enables: "\\we \\we \\we \\other",
+        ..SIXTEEN_BY_FOUR
+    };
+    let wordy = design_text(alloc, wordy)?;
+    for (design, library, line) in [
+        (design.as_bytes(), b"ram".as_slice(), b"refused 6 90 0 -\n"),
+        (b"".as_slice(), b"ram".as_slice(), b"refused 5 90 0 -\n"),
+        (
+            b"\xff\x00".as_slice(),
+            b"".as_slice(),
+            b"refused 5 90 0 -\n",
+        ),
+        (wordy.as_bytes(), b"ram".as_slice(), b"refused 5 90 0 -\n"),
+    ] {
+        let mut desk = desk(alloc, design, library, &[])?;
+        assert!(rt; run(&rt, alloc, words.as_slice(), &mut desk).exit_status() > 4);
+        assert!(rt; has(&desk, "r", line.as_slice()));
+        assert!(rt; desk.file("n").is_none());
+    }
+    Ok(())
+}
+
+#[test]
+fn usage(rt: HostRuntime) -> Result<(), Fail> {
+    let alloc = rt.alloc();
+    for line in [
+        "map",
+        "",
+        "map d l i n r 0",
+        "map d l i n r 65",
+        "map d l i n r +1",
+        "map d l i n r 1 1",
+        "patch d l i n r 1",
+    ] {
+        let words = words(alloc, line)?;
+        let mut desk = form_desk(alloc, SIXTEEN_BY_FOUR, &[])?;
+        assert_eq!(rt;
+            run(&rt, alloc, words.as_slice(), &mut desk),
+            Status::Usage,
+            "at {line}"
+        );
+        assert!(rt; desk.file("r").is_none());
+    }
+    Ok(())
+}
+
+#[test]
+fn failing_calls(rt: HostRuntime) -> Result<(), Fail> {
+    let alloc = rt.alloc();
+    let words = words(alloc, "map d l i n r 064")?;
+    for (fails, status, whole) in [
+        (0u64, Status::ReadFault, 0usize),
+        (1, Status::ReadFault, 0),
+        (2, Status::WriteFault, 0),
+        (3, Status::WriteFault, 1),
+        (4, Status::WriteFault, 2),
+    ] {
+        let mut good = form_desk(alloc, SIXTEEN_BY_FOUR, &[])?;
+        let _ = run(&rt, alloc, words.as_slice(), &mut good);
+        let mut desk = form_desk(alloc, SIXTEEN_BY_FOUR, &[fails])?;
+        assert_eq!(rt;
+            run(&rt, alloc, words.as_slice(), &mut desk),
+            status,
+            "at {fails}"
+        );
+        for (place, name) in ["i", "n", "r"].into_iter().enumerate() {
+            let text = good.file(name).ok_or("not made")?;
+            if place < whole {
+                assert!(rt; has(&desk, name, text));
+            } else if fails == 2 + place as u64 {
+                assert!(rt; has(&desk, name, &text[..text.len() / 2]));
+            } else {
+                assert!(rt; desk.file(name).is_none());
+            }
+        }
+    }
+    Ok(())
+}
+
+#[test]
+fn refusal_line_fails(rt: HostRuntime) -> Result<(), Fail> {
+    let alloc = rt.alloc();
+    let words = words(alloc, "map d l i n r 1")?;
+    let mut desk = desk(alloc, b"", b"", &[1])?;
+    assert_eq!(rt;
+        run(&rt, alloc, words.as_slice(), &mut desk).exit_status(),
+        5
+    );
+    assert!(rt; has(&desk, "r", b"refused "));
+    Ok(())
+}
+
+#[test]
+fn long_and_missing_files(rt: HostRuntime) -> Result<(), Fail> {
+    let alloc = rt.alloc();
+    let long = vec![in alloc; b' '; 16_777_217]?;
+    let mut desk = desk(alloc, long.as_slice(), b"", &[])?;
+    let status = Status::Limit {
+        counted: Counted::File,
+        seen: 16_777_217,
+    };
+    let asked = words(alloc, "map d l i n r 1")?;
+    assert_eq!(rt; run(&rt, alloc, asked.as_slice(), &mut desk), status);
+    assert!(rt; has(&desk, "r", b"refused 8 0 0 -\n"));
+    let asked = words(alloc, "map e l i n s 1")?;
+    assert_eq!(rt;
+        run(&rt, alloc, asked.as_slice(), &mut desk),
+        Status::ReadFault
+    );
+    assert!(rt; desk.file("s").is_none());
+    assert_eq!(rt;
+        refusal_line(alloc, &Status::Usage)?.as_slice(),
+        b"refused 2 0 0 -\n".as_slice()
+    );
+    Ok(())
+}
