@@ -1,1 +1,6 @@
+pub mod CellNames
+pub mod Fills
+pub mod Kinds
 pub mod Lending
+pub mod Picks
+pub mod Rams

@@ -1,7 +1,7 @@
 //! Equal copies.
 ghost use Rattle.std.specs.Prelude.{◌≡◌, IfOk};
 
-use crate::library::Tri;
+use crate::library::{Choice, Tri, Value};
 use crate::list::List;
 use crate::memory::Memory;
 use crate::name::Name;
@@ -53,4 +53,22 @@ fn duplicates<T: Duplicate + Drop>(alloc: Global, items: &[T]) -> Result<Vec<T>,
         copies.push(item.duplicate(alloc)?)?;
     }
     Ok(copies)
+}
+
+impl Duplicate for Value {
+    fn duplicate(&self, alloc: Global) -> Result<Value, Memory> {
+        Ok(match self {
+            Value::Number(number) => Value::Number(*number),
+            Value::Text(text) => Value::Text(text.copy(alloc)?),
+        })
+    }
+}
+
+impl Duplicate for Choice {
+    fn duplicate(&self, alloc: Global) -> Result<Choice, Memory> {
+        Ok(Choice {
+            name: self.name.copy(alloc)?,
+            value: self.value.duplicate(alloc)?,
+        })
+    }
 }
