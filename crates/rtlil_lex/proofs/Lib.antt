@@ -1,0 +1,10 @@
+pub mod Quotes
+pub mod Numbers
+pub mod Runs
+pub mod Steps
+pub mod TextLines
+pub mod Lexical
+pub mod Spelled
+pub mod Pieces
+pub mod Fitting
+pub mod Within

@@ -1,6 +1,12 @@
 //! The tokens of a line.
 use lib_core::{List, Name};
 
+/// The most bytes of an identifier, with its first one, and of a string, after its escapes.
+pub const MAX_TEXT: usize = 65_536;
+
+/// The most digits of a constant, as many as its width says.
+pub const MAX_WIDTH: u64 = 4_194_304;
+
 /// A digit of a constant.
 #[derive(Clone, Copy, Debug, PartialEq, Eq)]
 pub enum Digit {
