@@ -1,0 +1,14 @@
+pub mod AlikeAll
+pub mod AlikeCells
+pub mod AlikeRams
+pub mod Basics
+pub mod Cases
+pub mod Netlists
+pub mod Numbers
+pub mod Ordering
+pub mod Patching
+pub mod Refining
+pub mod RenamedNets
+pub mod Settle
+pub mod Sorting
+pub mod StyleLemmas

@@ -6,7 +6,8 @@ use Rattle.net_core.specs.declared.cells.Comb.{Comb}
 use Rattle.net_core.specs.declared.cells.Reg.{Reg}
 use Rattle.net_core.specs.declared.cells.FfKind.{FfKind}
 use Rattle.net_core.specs.declared.cells.FfKind.TheVariants.{Dff, Dffe, Adff, Adffe, Sdff, Sdffe, Sdffce}
-use Rattle.net_core.specs.Values.{Valuation, Wave, Happening, At, value_of, tri_at, tri_of, Agrees, Shows, same_bool, has_edge}
+use Rattle.lib_core.specs.Rams.{tri_at}
+use Rattle.net_core.specs.Values.{Valuation, Wave, Happening, At, value_of, tri_of, Agrees, Shows, same_bool, has_edge}
 use Rattle.net_core.specs.Logic.{comb_shows}
 
 abbrev pub CombAllows : Comb → List Happening → Wave → Type 0

@@ -1,5 +1,16 @@
+pub mod Alike
 pub mod Cells
+pub mod Drivers
 pub mod Logic
 pub mod Memory
+pub mod Nodes
+pub mod Pins
+pub mod Ports
 pub mod Ram
+pub mod Renaming
+pub mod Runs
+pub mod Shape
+pub mod Simulation
+pub mod Style
+pub mod Valid
 pub mod Values

@@ -8,7 +8,8 @@ use Rattle.net_core.specs.declared.bits.Bit.{Bit}
 use Rattle.net_core.specs.declared.mems.Mem.{Mem}
 use Rattle.net_core.specs.declared.mems.RdPort.{RdPort}
 use Rattle.net_core.specs.declared.mems.WrPort.{WrPort}
-use Rattle.net_core.specs.Values.{Valuation, Wave, Happening, At, value_of, values_of, number_of, bit_at, tri_at, tri_of, Agrees, Shows, has_edge}
+use Rattle.lib_core.specs.Rams.{tri_at}
+use Rattle.net_core.specs.Values.{Valuation, Wave, Happening, At, value_of, values_of, number_of, bit_at, tri_of, Agrees, Shows, has_edge}
 
 -- the size and place of a memory's words
 pub record Frame : Type 0 where
@@ -30,8 +31,8 @@ hit inputs f e v word k w =
     let base = base_of v w.addr in
     let place = (address - base) * f.width + k in
     cond (has_edge inputs e.edge w.clock && nat_le base address && nat_lt address (base + 2 ^ w.wide) && bit_at (values_of v w.en) place)
-        (Some (bit_at (values_of v w.value) place))
-        None
+    (Some (bit_at (values_of v w.value) place))
+    None
 
 -- one entry for each write
 abbrev pub hits : List ℕ → Frame → Happening → Valuation → ℕ → ℕ → List WrPort → List (Option Bool)
@@ -80,8 +81,8 @@ none_masked mask at (h ∷ hs) = (not (is_hit h) || not (bit_at mask at)) && non
 abbrev pub loaded : List Bool → List Bool → List WrPort → List (Option Bool) → Tri → Tri
 loaded trans coll ws hs old =
     cond (any_hit hs)
-        (cond (all_masked trans 0 hs) (tri_or_any (winner hs 0 ws hs)) (cond (none_masked trans 0 hs && none_masked coll 0 hs) old Any))
-        old
+    (cond (all_masked trans 0 hs) (tri_or_any (winner hs 0 ws hs)) (cond (none_masked trans 0 hs && none_masked coll 0 hs) old Any))
+    old
 
 -- contents at each moment: moment, word, bit
 abbrev pub Words : Type 0
@@ -106,8 +107,8 @@ read_next inputs f ws c r e v words kept k out =
     (cond (not (has_edge inputs e.edge c)) (tri_of (kept k))
     (cond (read_resets r v) (tri_at r.srst_value k)
     (cond (value_of v r.en)
-        (read_bit f (base_of v r.addr) k (λ word bit. loaded r.trans r.coll ws (hits inputs f e v word bit ws) (words word bit)))
-        (tri_of (kept k)))))
+    (read_bit f (base_of v r.addr) k (λ word bit. loaded r.trans r.coll ws (hits inputs f e v word bit ws) (words word bit)))
+    (tri_of (kept k)))))
 
 pub record ClockedAllows (inputs : List ℕ) (f : Frame) (ws : List WrPort) (c : Clock) (r : RdPort) (words : Words) (events : List Happening) (v : Wave) : Type 0 where
   pub kept : ℕ → ℕ → Bool

@@ -1,49 +1,18 @@
--- What a RAM cell allows, by the variant that describes it: its contents over time, and what its slots show and keep.
--- A variant of K levels above the first has 2 ^ (abits - K) words of its last width.
-use Rattle.std.specs.Prelude.{◌≡◌, ℕ, zero, suc, ◌+◌, ◌-◌, ◌*◌, ◌/◌, ◌%◌, ◌^◌, ◌<◌, Bool, true, false, cond, not, ◌&&◌, ◌||◌, List, [], ◌∷◌, ◌++◌, length, Option, Some, None, slice_get, nat_eq, nat_le}
+-- What a RAM cell allows, by the variant that describes it: its contents over time, and what its slots show and keep. (The
+-- words are those of Yosys' memory_libmap; what is not described there shows any value.)
+use Rattle.std.specs.Prelude.{◌≡◌, ℕ, zero, suc, ◌+◌, ◌*◌, ◌/◌, ◌^◌, ◌<◌, Bool, true, false, cond, not, ◌&&◌, ◌||◌, List, [], ◌∷◌, ◌++◌, length, Option, Some, None, slice_get, nat_eq}
 use Rattle.std.specs.List.{range_with_len, list_any, find}
 use Rattle.lib_core.specs.declared.library.Tri.{Tri}
-use Rattle.lib_core.specs.declared.library.Tri.TheVariants.{Zero, Any}
-use Rattle.lib_core.specs.declared.library.Fill.{Fill}
-use Rattle.lib_core.specs.declared.library.Fill.TheVariants as fill
-use Rattle.lib_core.specs.declared.library.PortKind.{PortKind}
-use Rattle.lib_core.specs.declared.library.PortKind.TheVariants.{Ar, Sr, Sw, Arsw, Srsw}
+use Rattle.lib_core.specs.declared.library.Tri.TheVariants.{Any}
 use Rattle.lib_core.specs.declared.library.OwnWrite.{OwnWrite}
 use Rattle.lib_core.specs.declared.library.OwnWrite.TheVariants as own
-use Rattle.lib_core.specs.declared.library.SrstGate.{SrstGate}
-use Rattle.lib_core.specs.declared.library.SrstGate.TheVariants as gate
-use Rattle.lib_core.specs.declared.library.Seen.{Seen}
-use Rattle.lib_core.specs.declared.library.Seen.TheVariants as seen
-use Rattle.lib_core.specs.declared.library.Trans.{Trans}
 use Rattle.lib_core.specs.declared.library.Group.{Group}
 use Rattle.lib_core.specs.declared.library.Variant.{Variant}
+use Rattle.lib_core.specs.Rams.{width_at, last_width, last_words, lies, reads_now, reads_later, lane_width, wins_over, filled, has_fill, reset_counts, View, group_view, is_behind, is_before}
 use Rattle.net_core.specs.declared.rams.SlotUse.{SlotUse}
 use Rattle.net_core.specs.declared.rams.RamCell.{RamCell}
-use Rattle.net_core.specs.Values.{Valuation, Wave, Happening, At, value_of, values_of, number_of, bit_at, tri_at, tri_of, Agrees, Shows, has_edge}
+use Rattle.net_core.specs.Values.{Valuation, Wave, Happening, At, value_of, values_of, number_of, bit_at, tri_of, Agrees, Shows, has_edge}
 use Rattle.net_core.specs.Memory.{Words, is_hit, any_hit, tri_or_any}
-
-abbrev pub width_at : List ℕ → ℕ → ℕ
-width_at [] level = 0
-width_at (w ∷ ws) zero = w
-width_at (w ∷ ws) (suc level) = width_at ws level
-
--- the level of the last width
-abbrev pub last_level : Variant → ℕ
-last_level x = length x.widths - 1
-
--- Where a bit of a word lies in a word of a higher level: a word one level up is, from its low bit, the word at the even
--- place, the word at the next place, and bits of its own.
-abbrev pub lies_above : List ℕ → ℕ → ℕ → ℕ → ℕ → ℕ × ℕ
-lies_above widths zero level word place = (word, place)
-lies_above widths (suc steps) level word place = lies_above widths steps (level + 1) (word / 2) (word % 2 * width_at widths level + place)
-
--- the word of the last width, and the bit in it
-abbrev pub lies : Variant → ℕ → ℕ → ℕ → ℕ × ℕ
-lies x level word place = lies_above x.widths (last_level x - level) level word place
-
--- the bit at which a word of a level begins in a word of a higher level, the words of that one counted from 0
-abbrev pub offset_in : List ℕ → ℕ → ℕ → ℕ → ℕ
-offset_in widths low high word = (lies_above widths (high - low) low word 0).1
 
 -- a slot: its number in the cell, its group, and its pins
 pub record Slot : Type 0 where
@@ -71,33 +40,12 @@ slots_from number g (kind ∷ kinds) pins =
 abbrev pub slots_of : Variant → RamCell → List Slot
 slots_of x cell = slots_from 0 0 x.groups cell.slots
 
--- the slot reads within the moment
-abbrev pub reads_now : PortKind → Bool
-reads_now Ar = true
-reads_now Arsw = true
-reads_now Sr = false
-reads_now Sw = false
-reads_now Srsw = false
-
--- the slot reads into a register
-abbrev pub reads_later : PortKind → Bool
-reads_later Ar = false
-reads_later Arsw = false
-reads_later Sr = true
-reads_later Sw = false
-reads_later Srsw = true
-
 abbrev pub slot_width : Variant → Slot → ℕ
 slot_width x s = width_at x.widths s.pins.level
 
 -- the slot's word, of its own level
 abbrev pub word_of : Valuation → Slot → ℕ
 word_of v s = number_of (values_of v s.pins.addr) / 2 ^ s.pins.level
-
--- how many bits one enable serves in a word of this width
-abbrev pub lane_width : Option ℕ → ℕ → ℕ
-lane_width None width = width
-lane_width (Some byte) width = cond (nat_le width byte) width byte
 
 abbrev pub slot_edge : List ℕ → Happening → Slot → Bool
 slot_edge inputs e s = s.pins.used && has_edge inputs e.edge s.pins.clock
@@ -128,15 +76,6 @@ abbrev pub slot_hits : List ℕ → Variant → Happening → Valuation → ℕ 
 slot_hits inputs x e v word k [] = []
 slot_hits inputs x e v word k (s ∷ ss) = slot_hit inputs x e v word k s ∷ slot_hits inputs x e v word k ss
 
--- the group names the other
-abbrev pub names : Group → ℕ → Bool
-names kind g = list_any (nat_eq g) kind.prio
-
--- A group wins over another that it names. Where two groups name each other, and so where a group names itself, that
--- counts for nothing.
-abbrev pub wins_over : ℕ → Group → ℕ → Group → Bool
-wins_over a here b there = names here b && not (names there a)
-
 abbrev pub is_above : Slot → Slot → Bool
 is_above a b = wins_over a.group a.kind b.group b.kind
 
@@ -155,57 +94,8 @@ slot_winner all hits (s ∷ ss) (Some b ∷ hs) = cond (beats_slots s all hits) 
 abbrev pub slots_written : List Slot → List (Option Bool) → Tri → Tri
 slots_written all hs old = cond (any_hit hs) (tri_or_any (slot_winner all hs all hs)) old
 
--- what a fill makes of what is given for a reset, a start or the contents
-abbrev pub filled : Fill → List Tri → ℕ → Tri
-filled fill.Nothing given k = Any
-filled fill.Zero given k = Zero
-filled fill.Any given k = tri_at given k
-filled fill.NoUndef given k = tri_at given k
-
-abbrev pub has_fill : Fill → Bool
-has_fill fill.Nothing = false
-has_fill fill.Zero = true
-has_fill fill.Any = true
-has_fill fill.NoUndef = true
-
-abbrev pub reset_counts : SrstGate → Bool → Bool → Bool
-reset_counts gate.Ungated clken rden = true
-reset_counts gate.Clken clken rden = clken
-reset_counts gate.Rden clken rden = clken && rden
-
--- how a read sees a hit: as not made yet, as made, or in no described way
-pub data View : Type 0 where
-  Before : View
-  Behind : View
-  Undescribed : View
-
-abbrev pub view_of : Seen → View
-view_of seen.Old = Before
-view_of seen.New = Behind
-
-abbrev pub trans_view : ℕ → List Trans → View
-trans_view g [] = Undescribed
-trans_view g (t ∷ ts) = cond (nat_eq t.group g) (view_of t.seen) (trans_view g ts)
-
-abbrev pub own_view : OwnWrite → View
-own_view own.Undefined = Undescribed
-own_view own.NoChange = Undescribed
-own_view own.Old = Before
-own_view own.New = Behind
-own_view own.NewOnly = Behind
-
 abbrev pub view : Slot → Slot → View
-view reader writer = cond (nat_eq reader.number writer.number) (own_view reader.kind.own) (trans_view reader.group writer.kind.trans)
-
-abbrev pub is_behind : View → Bool
-is_behind Before = false
-is_behind Behind = true
-is_behind Undescribed = false
-
-abbrev pub is_before : View → Bool
-is_before Before = true
-is_before Behind = false
-is_before Undescribed = false
+view reader writer = group_view (nat_eq reader.number writer.number) reader.group reader.kind writer.kind
 
 -- each hit is seen as made; each is seen as not made yet
 abbrev pub all_behind : Slot → List Slot → List (Option Bool) → Bool
@@ -283,6 +173,6 @@ SlotAllows inputs x all s words events v =
 
 pub record RamAllows (inputs : List ℕ) (x : Variant) (cell : RamCell) (events : List Happening) (v : Wave) : Type 0 where
   pub words : Words
-  pub starts : (word k : ℕ) → word < 2 ^ (x.abits - last_level x) → k < width_at x.widths (last_level x) → words 0 word k ≡ filled x.fill cell.init (word * width_at x.widths (last_level x) + k)
-  pub steps : (t : ℕ) (e : Happening) → At events t e → (word k : ℕ) → word < 2 ^ (x.abits - last_level x) → k < width_at x.widths (last_level x) → words (suc t) word k ≡ slots_written (slots_of x cell) (slot_hits inputs x e (v t) word k (slots_of x cell)) (words t word k)
+  pub starts : (word k : ℕ) → word < last_words x → k < last_width x → words 0 word k ≡ filled x.fill cell.init (word * last_width x + k)
+  pub steps : (t : ℕ) (e : Happening) → At events t e → (word k : ℕ) → word < last_words x → k < last_width x → words (suc t) word k ≡ slots_written (slots_of x cell) (slot_hits inputs x e (v t) word k (slots_of x cell)) (words t word k)
   pub slots : (i : ℕ) (s : Slot) → slice_get (slots_of x cell) i ≡ Some s → SlotAllows inputs x (slots_of x cell) s words events v

@@ -51,12 +51,6 @@ bit_at (b ∷ bs) (suc k) = bit_at bs k
 abbrev pub nat_bit : ℕ → ℕ → Bool
 nat_bit n k = nat_eq (n / 2 ^ k % 2) 1
 
--- what stands at a place, any past the end
-abbrev pub tri_at : List Tri → ℕ → Tri
-tri_at [] k = Any
-tri_at (t ∷ ts) zero = t
-tri_at (t ∷ ts) (suc k) = tri_at ts k
-
 abbrev pub tri_of : Bool → Tri
 tri_of true = One
 tri_of false = Zero

@@ -4,12 +4,21 @@
 pub mod bits;
 pub mod cells;
 mod copies;
+pub mod laws;
 pub mod mems;
 pub mod modules;
+pub mod ports;
 pub mod rams;
+pub mod shapes;
+pub mod styles;
+#[cfg(test)]
+mod tests;
 
 pub use bits::{Bit, Clock, Edge, Event};
 pub use cells::{Carried, Comb, CombKind, FfKind, Pin, Reg};
 pub use mems::{Attr, Mem, MemJob, Pair, Place, RdPort, Style, WrPort};
 pub use modules::{Design, MemPart, Module, Wire};
+pub use ports::inputs;
 pub use rams::{RamCell, SlotUse};
+pub use shapes::{cell_fits, variant_of};
+pub use styles::style_of;
