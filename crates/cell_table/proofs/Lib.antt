@@ -1,0 +1,6 @@
+pub mod Constants
+pub mod Naming
+pub mod Numbers
+pub mod Operands
+pub mod Rows
+pub mod Selecting
