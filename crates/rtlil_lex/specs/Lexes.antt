@@ -9,7 +9,8 @@ use Rattle.rtlil_lex.specs.declared.token.Token.TheVariants as token
 use Rattle.rtlil_lex.specs.Bytes.{is_blank, is_visible, is_decimal, is_octal, is_word_byte, is_constant_digit, start_of, Ends}
 use Rattle.rtlil_lex.specs.Values.{identifier_token, word_of, value_of, number_token, negative_token, digit_of, constant_token, unescaped, octal_byte, single_token}
 
--- a string, and how it may stand between its quotes; an octal escape takes as many digits as there are, up to three
+-- a string, and how it may stand between its quotes; an octal escape takes as many digits as there are, up to three, and
+-- those that are left out on the left are 0
 pub data Quoted : List ℕ → List ℕ → Type 0 where
   nothing : Quoted [] []
   plain : {t text : List ℕ} (b : ℕ) → (b == 34) ≡ false → (b == 92) ≡ false → Quoted t text → Quoted (b ∷ t) (b ∷ text)

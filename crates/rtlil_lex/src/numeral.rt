@@ -1,8 +1,8 @@
 //! Numbers and constants.
-ghost use Rattle.std.specs.Prelude.{◌≡◌, ◌^◌, ◌≤◌, ◌++◌, min, drop, map, List, ℕ, IfOk, OnOk};
+ghost use Rattle.std.specs.Prelude.{◌≡◌, ◌^◌, ◌++◌, min, map, List, ℕ, IfOk, OnOk};
 ghost use Rattle.rtlil_lex.specs.Values.{value_of, number_token, negative_token, digit_of, filler, fit, constant_token};
 ghost use Rattle.rtlil_lex.specs.Limits.{limited, limited_first};
-ghost use Rattle.rtlil_lex.specs.Lex.{without_flag, constant_at, number_at, negative_at};
+ghost use Rattle.rtlil_lex.specs.Lex.{without_flag, number_at, negative_at};
 
 use crate::bytes::{Class, cut};
 use crate::token::{Digit, MAX_WIDTH, Token};

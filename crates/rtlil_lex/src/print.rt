@@ -1,7 +1,6 @@
 //! From tokens to their printed form. Each call appends to a text; without memory the text may have
 //! gained a part of the form.
-ghost use Rattle.std.specs.Prelude.{◌≡◌, ◌++◌, ◌∷◌, [], length, map, OnOk, decimal};
-ghost use Rattle.std.specs.Fmt.{signed_decimal};
+ghost use Rattle.std.specs.Prelude.{◌≡◌, ◌++◌, ◌∷◌, [], map, OnOk};
 ghost use Rattle.std.specs.List.{flat_map};
 ghost use Rattle.rtlil_lex.specs.declared.token.Token.TheVariants as token;
 ghost use Rattle.rtlil_lex.specs.Spelling.{numeral, digit_byte, octal_digits, escape, word_text, spelling};

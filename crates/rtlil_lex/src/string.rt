@@ -1,5 +1,5 @@
 //! Strings: what stands between their quotes.
-ghost use Rattle.std.specs.Prelude.{◌≡◌, ◌++◌, IfOk, OnErr, option_map};
+ghost use Rattle.std.specs.Prelude.{◌≡◌, ◌++◌, IfOk, option_map};
 ghost use Rattle.rtlil_lex.specs.declared.string.Place.TheVariants.{Plain};
 ghost use Rattle.rtlil_lex.specs.Values.{unescaped, octal_byte};
 ghost use Rattle.rtlil_lex.specs.Lex.{plain_step, string_step, string_at};
