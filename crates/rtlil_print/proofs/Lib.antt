@@ -1,0 +1,7 @@
+pub mod Counts
+pub mod Canonical
+pub mod PrintedSignals
+pub mod PrintedOptions
+pub mod Statements
+pub mod RoundTrip
+mod TestDocuments

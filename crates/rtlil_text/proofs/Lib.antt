@@ -1,0 +1,15 @@
+pub mod Steps
+pub mod SignalFound
+pub mod LineFound
+pub mod SignalSays
+pub mod LineSays
+pub mod Advance
+pub mod DocFound
+pub mod DocSays
+pub mod Wider
+pub mod Completes
+pub mod Codes
+pub mod LineFaults
+pub mod Documents
+pub mod TextFaults
+pub mod Reading
