@@ -4,4 +4,3 @@ pub mod PrintedSignals
 pub mod PrintedOptions
 pub mod Statements
 pub mod RoundTrip
-mod TestDocuments

@@ -136,3 +136,16 @@ fn limits(rt: HostRuntime) -> Result<(), Fail> {
     refused(&rt, alloc, long.as_slice(), 1, TextCode::Limit, 65_537);
     Ok(())
 }
+
+#[test]
+fn messages(rt: HostRuntime) -> Result<(), Fail> {
+    let fault = TextFault {
+        line: 7,
+        code: TextCode::Grammar,
+        seen: 0,
+    };
+    let message = fault.to_string(rt.alloc())?;
+    assert!(rt; message.as_str() == "text fault in line 7");
+    assert!(rt; TextCode::Token as u8 == 1 && TextCode::Limit as u8 == 4);
+    Ok(())
+}
