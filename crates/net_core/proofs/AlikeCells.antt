@@ -1,7 +1,6 @@
 -- Of cells that are alike under two waves, the second allows the second wave where the first allows the first: logic cells,
 -- registers, memories.
-use Rattle.std.proofs.Common.{◌≡◌, ℕ, zero, suc, ◌+◌, ◌-◌, ◌*◌, ◌/◌, ◌%◌, ◌<◌, Bool, true, false, cond, not, ◌&&◌, List, [], ◌∷◌, length, Option, Some, None, refl, sym, ap, ◌∙◌, subst}
-use Rattle.std.specs.Prelude.{slice_get}
+use Rattle.std.proofs.Common.{◌≡◌, ℕ, suc, ◌+◌, ◌*◌, ◌<◌, Bool, cond, not, List, [], ◌∷◌, Option, Some, None, refl, sym, ap, ◌∙◌, subst}
 use Rattle.lib_core.specs.declared.library.Tri.{Tri}
 use Rattle.lib_core.specs.Rams.{tri_at}
 use Rattle.net_core.specs.declared.bits.Bit.{Bit}
@@ -11,11 +10,11 @@ use Rattle.net_core.specs.declared.cells.Reg.{Reg}
 use Rattle.net_core.specs.declared.mems.Mem.{Mem}
 use Rattle.net_core.specs.declared.mems.RdPort.{RdPort}
 use Rattle.net_core.specs.declared.mems.WrPort.{WrPort}
-use Rattle.net_core.specs.Values.{Valuation, Wave, Happening, At, value_of, values_of, tri_of, Agrees, has_edge}
+use Rattle.net_core.specs.Values.{Wave, Happening, value_of, tri_of, Agrees, has_edge}
 use Rattle.net_core.specs.Logic.{comb_shows}
 use Rattle.net_core.specs.Cells.{CombAllows, RegAllows, reg_shows, reg_next, in_arst, in_srst, enabled}
-use Rattle.net_core.specs.Memory.{Frame, frame_of, base_of, hit, hits, any_hit, winner, written, loaded, Words, read_bit, read_resets, read_shows, read_next, ReadAllows, MemAllows}
-use Rattle.net_core.specs.Alike.{SameBit, SameBits, SameNets, SameClock, SameReadClock, CombsAlike, RegsAlike, ReadsAlike, WriteAlike, WritesAlike, MemsAlike}
+use Rattle.net_core.specs.Memory.{Frame, frame_of, base_of, hit, hits, winner, written, loaded, Words, read_bit, read_resets, read_shows, read_next, ReadAllows, MemAllows}
+use Rattle.net_core.specs.Alike.{SameClock, SameReadClock, CombsAlike, RegsAlike, ReadsAlike, WriteAlike, WritesAlike, MemsAlike}
 
 pub agrees_by : (a b : Tri) (x y : Bool) → b ≡ a → y ≡ x → Agrees a x → Agrees b y
 agrees_by a b x y e g h = subst (λ t. Agrees t y) (sym e) (subst (λ u. Agrees a u) (sym g) h)

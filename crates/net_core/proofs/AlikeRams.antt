@@ -1,5 +1,5 @@
 -- Of RAM cells that are alike under two waves, the second allows the second wave where the first allows the first.
-use Rattle.std.proofs.Common.{◌≡◌, ℕ, zero, suc, ◌+◌, ◌*◌, ◌/◌, ◌<◌, Bool, true, false, cond, not, ◌&&◌, ◌||◌, List, [], ◌∷◌, ◌++◌, length, Option, Some, None, refl, sym, ap, ◌∙◌, subst, nat_eq}
+use Rattle.std.proofs.Common.{◌≡◌, ℕ, zero, suc, ◌+◌, ◌*◌, ◌/◌, Bool, cond, not, ◌&&◌, List, [], ◌∷◌, ◌++◌, length, Option, Some, None, refl, sym, ap, ◌∙◌, subst, nat_eq}
 use Rattle.std.specs.Prelude.{slice_get}
 use Rattle.std.specs.List.{range_with_len, list_any, find}
 use Rattle.std.proofs.lemmas.Option.{same_Some}
@@ -8,13 +8,13 @@ use Rattle.lib_core.specs.declared.library.OwnWrite.{OwnWrite}
 use Rattle.lib_core.specs.declared.library.OwnWrite.TheVariants as own
 use Rattle.lib_core.specs.declared.library.Group.{Group}
 use Rattle.lib_core.specs.declared.library.Variant.{Variant}
-use Rattle.lib_core.specs.Rams.{width_at, last_width, lies, reads_now, reads_later, lane_width, filled, View}
+use Rattle.lib_core.specs.Rams.{width_at, last_width, lies, reads_now, reads_later, lane_width, filled}
 use Rattle.net_core.specs.declared.rams.SlotUse.{SlotUse}
 use Rattle.net_core.specs.declared.rams.RamCell.{RamCell}
-use Rattle.net_core.specs.Values.{Valuation, Wave, Happening, At, value_of, values_of, bit_at, tri_of, Agrees, has_edge}
-use Rattle.net_core.specs.Memory.{Words, is_hit, any_hit}
+use Rattle.net_core.specs.Values.{Wave, Happening, tri_of}
+use Rattle.net_core.specs.Memory.{Words}
 use Rattle.net_core.specs.Ram.{Slot, group_slots, skip, slots_from, slots_of, slot_width, word_of, slot_edge, slot_active, lane_enabled, place_at, hit_at, slot_hit, slot_hits, is_above, beats_slots, slot_winner, slots_written, view, all_behind, all_before, slot_loads, hits_itself, writes_itself, own_loads, slot_enabled, slot_reading, slot_in_arst, slot_in_srst, slot_next, SlotAllows, RamAllows}
-use Rattle.net_core.specs.Alike.{SameBit, SameBits, SameNets, SameClock, UseAlike, UsesAlike, RamsAlike}
+use Rattle.net_core.specs.Alike.{UseAlike, UsesAlike, RamsAlike}
 use Rattle.net_core.proofs.AlikeCells.{agrees_by}
 
 module _ (ins outs : List ℕ) (v w : Wave) where

@@ -4,28 +4,26 @@ use Rattle.std.specs.Prelude.{codes}
 use Rattle.lib_core.specs.declared.library.Tri.{Tri}
 use Rattle.lib_core.specs.declared.library.Tri.TheVariants as tri
 use Rattle.lib_core.specs.declared.library.Fill.TheVariants as fill
-use Rattle.lib_core.specs.declared.library.PortKind.TheVariants.{Ar, Sr, Sw, Arsw, Srsw}
+use Rattle.lib_core.specs.declared.library.PortKind.TheVariants.{Srsw}
 use Rattle.lib_core.specs.declared.library.EdgeKind.TheVariants as edge
 use Rattle.lib_core.specs.declared.library.OwnWrite.TheVariants as own
 use Rattle.lib_core.specs.declared.library.SrstGate.TheVariants as gate
 use Rattle.lib_core.specs.declared.library.Group.{Group}
 use Rattle.lib_core.specs.declared.library.Variant.{Variant}
-use Rattle.lib_core.specs.Rams.{offset_in, lies, lanes, wins_over}
+use Rattle.lib_core.specs.Rams.{offset_in, lanes}
 use Rattle.net_core.specs.declared.bits.Bit.{Bit}
 use Rattle.net_core.specs.declared.bits.Bit.TheVariants.{Zero, One, Net}
 use Rattle.net_core.specs.declared.bits.Clock.TheVariants.{Root, Never}
-use Rattle.net_core.specs.declared.bits.Event.{Event}
 use Rattle.net_core.specs.declared.cells.CombKind.TheVariants as kind
 use Rattle.net_core.specs.declared.mems.WrPort.{WrPort}
-use Rattle.net_core.specs.declared.mems.Attr.{Attr}
-use Rattle.net_core.specs.declared.mems.Style.TheVariants.{Auto, Registers, Class, Word}
+use Rattle.net_core.specs.declared.mems.Style.TheVariants.{Registers, Word}
 use Rattle.net_core.specs.declared.rams.SlotUse.{SlotUse}
 use Rattle.net_core.specs.declared.modules.Wire.{Wire}
 use Rattle.net_core.specs.Values.{Happening, has_edge}
 use Rattle.net_core.specs.Logic.{row_bit}
 use Rattle.net_core.specs.Memory.{Frame, hits, written, loaded, read_bit}
-use Rattle.net_core.specs.Ports.{by_port, is_inout, face_of, happening_of, are_joined}
-use Rattle.net_core.specs.Style.{word_style, first_attr, ram_names}
+use Rattle.net_core.specs.Ports.{by_port, happening_of, are_joined}
+use Rattle.net_core.specs.Style.{word_style}
 use Rattle.net_core.specs.Shape.{slots_fit, slot_fits}
 
 abbrev row : (ℕ → Tri) → List Tri

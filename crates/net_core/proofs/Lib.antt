@@ -3,11 +3,13 @@ pub mod AlikeCells
 pub mod AlikeRams
 pub mod Basics
 pub mod Cases
+pub mod Counting
 pub mod Netlists
 pub mod Numbers
 pub mod Ordering
 pub mod Patching
 pub mod Refining
+pub mod RenamedFrame
 pub mod RenamedNets
 pub mod Settle
 pub mod Sorting

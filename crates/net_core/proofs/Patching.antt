@@ -1,8 +1,6 @@
 -- A cell that touches none of some nets allows a wave that is patched there.
-use Rattle.std.proofs.Common.{◌≡◌, ℕ, zero, suc, Bool, true, false, not, ◌&&◌, List, [], ◌∷◌, Option, Some, None, refl, sym, ap}
-use Rattle.std.specs.Prelude.{slice_get}
+use Rattle.std.proofs.Common.{◌≡◌, ℕ, true, not, ◌&&◌, List, [], ◌∷◌, Option, Some, None, refl, sym}
 use Rattle.std.specs.List.{list_all}
-use Rattle.lib_core.specs.declared.library.Variant.{Variant}
 use Rattle.net_core.specs.declared.bits.Bit.{Bit}
 use Rattle.net_core.specs.declared.bits.Clock.{Clock}
 use Rattle.net_core.specs.declared.cells.Comb.{Comb}
@@ -12,10 +10,7 @@ use Rattle.net_core.specs.declared.mems.RdPort.{RdPort}
 use Rattle.net_core.specs.declared.mems.WrPort.{WrPort}
 use Rattle.net_core.specs.declared.rams.SlotUse.{SlotUse}
 use Rattle.net_core.specs.declared.rams.RamCell.{RamCell}
-use Rattle.net_core.specs.Values.{Wave, Happening}
-use Rattle.net_core.specs.Cells.{CombAllows, RegAllows}
-use Rattle.net_core.specs.Memory.{MemAllows}
-use Rattle.net_core.specs.Ram.{RamAllows}
+use Rattle.net_core.specs.Values.{Wave}
 use Rattle.net_core.specs.Alike.{SameBit, SameBits, SameNets, SamePlaces, SameClock, SameReadClock, CombsAlike, RegsAlike, ReadsAlike, WriteAlike, WritesAlike, MemsAlike, UseAlike, UsesAlike, RamsAlike}
 use Rattle.net_core.specs.Simulation.{among, SameOff, bit_avoids, bits_avoid, nets_avoid, comb_avoids, reg_avoids, read_avoids, write_avoids, mem_avoids, slot_avoids, ram_avoids, read_outs_avoid, slot_outs_avoid, PatchedIsAllowed}
 use Rattle.net_core.proofs.Basics.{and_left, and_right, not_true, all_at}

@@ -1,7 +1,6 @@
 -- Refinement and simulation compose, and what follows from them.
-use Rattle.std.proofs.Common.{◌≡◌, ℕ, zero, suc, ◌+◌, ◌<◌, Bool, true, false, not, ◌&&◌, ◌||◌, List, [], ◌∷◌, ◌++◌, map, length, Option, Some, None, refl, sym, ap, ◌∙◌, subst, arith}
+use Rattle.std.proofs.Common.{◌≡◌, ℕ, zero, suc, ◌+◌, ◌<◌, Bool, true, false, ◌||◌, List, [], ◌∷◌, ◌++◌, map, length, Some, refl, sym, ap, ◌∙◌, subst, arith}
 use Rattle.std.specs.Prelude.{slice_get}
-use Rattle.std.specs.List.{list_any}
 use Rattle.std.proofs.Math.Dec.{eqb}
 use Rattle.std.proofs.lemmas.Option.{same_Some}
 use Rattle.lib_core.specs.declared.library.Library.{Library}
@@ -10,9 +9,9 @@ use Rattle.net_core.specs.declared.bits.Bit.TheVariants.{Zero as Low, One as Hig
 use Rattle.net_core.specs.declared.modules.Module.{Module}
 use Rattle.net_core.specs.declared.modules.Design.{Design}
 use Rattle.net_core.specs.Values.{Valuation, Wave, Happening, At, value_of, values_of, bit_at}
-use Rattle.net_core.specs.Ports.{Interface, interface_of, outputs_of, ports_of}
-use Rattle.net_core.specs.Runs.{Run, shown, HasTrace, SameFrame, RefinesModule, interfaces, Refines, IsDefined}
-use Rattle.net_core.specs.Simulation.{among, SameOff, bit_avoids, bits_avoid, Simulated, Simulates, Always}
+use Rattle.net_core.specs.Ports.{Interface, interface_of, outputs_of}
+use Rattle.net_core.specs.Runs.{shown, SameFrame, RefinesModule, interfaces, Refines, IsDefined}
+use Rattle.net_core.specs.Simulation.{among, SameOff, bit_avoids, bits_avoid, Simulates, Always}
 use Rattle.net_core.proofs.Basics.{and_left, and_right, not_true, get_below, get_within}
 
 pub frame_itself : (modules : List Interface) (m : Module) → SameFrame modules m m

@@ -1,11 +1,9 @@
 -- A module with its nets renamed allows a wave exactly where the module allows the renamed wave, and has the same traces.
-use Rattle.std.proofs.Common.{◌≡◌, ℕ, zero, suc, ◌+◌, Bool, true, false, cond, not, ◌&&◌, ◌⊎◌, inl, inr, List, [], ◌∷◌, ◌++◌, map, length, Option, Some, None, refl, sym, ap, ◌∙◌, subst, eqb, leb}
+use Rattle.std.proofs.Common.{◌≡◌, ℕ, zero, suc, Bool, true, false, cond, not, ◌&&◌, inl, inr, List, [], ◌∷◌, ◌++◌, map, length, Option, Some, None, refl, sym, ap, ◌∙◌, subst, eqb, leb}
 use Rattle.std.specs.Prelude.{slice_get}
 use Rattle.std.specs.List.{filter, flat_map}
-use Rattle.std.proofs.lemmas.Option.{same_Some}
 use Rattle.std.proofs.lemmas.Bool.{eq-eqb, ne_eqb, cases_eq}
 use Rattle.lib_core.specs.declared.library.Library.{Library}
-use Rattle.lib_core.specs.declared.library.Variant.{Variant}
 use Rattle.net_core.specs.declared.bits.Bit.{Bit}
 use Rattle.net_core.specs.declared.bits.Bit.TheVariants.{Zero, One, Net}
 use Rattle.net_core.specs.declared.bits.Clock.{Clock}
@@ -18,26 +16,25 @@ use Rattle.net_core.specs.declared.mems.Mem.{Mem}
 use Rattle.net_core.specs.declared.mems.RdPort.{RdPort}
 use Rattle.net_core.specs.declared.mems.WrPort.{WrPort}
 use Rattle.net_core.specs.declared.rams.SlotUse.{SlotUse}
-use Rattle.net_core.specs.declared.rams.RamCell.{RamCell}
 use Rattle.net_core.specs.declared.modules.Wire.{Wire}
 use Rattle.net_core.specs.declared.modules.Module.{Module}
-use Rattle.net_core.specs.Values.{Valuation, Wave, Happening, At, value_of, values_of, is_input, same_bool, has_edge}
+use Rattle.net_core.specs.Values.{Wave, Happening, value_of, is_input, same_bool, has_edge}
 use Rattle.net_core.specs.Cells.{CombAllows, RegAllows}
 use Rattle.net_core.specs.Memory.{MemAllows}
 use Rattle.net_core.specs.Ram.{RamAllows}
 use Rattle.net_core.specs.Ports.{is_input_wire, is_output_wire, insert_port, by_port, wire_bits, bits_of_pins, driving_bits, reading_bits, nets_of, input_bits, inputs_of, outputs_of}
-use Rattle.net_core.specs.Runs.{variant_of, Run, HasTrace, shown}
-use Rattle.net_core.specs.Alike.{SameBit, SameBits, SameNets, SamePlaces, SameClock, SameReadClock, CombsAlike, RegsAlike, ReadsAlike, WriteAlike, WritesAlike, MemsAlike, UseAlike, UsesAlike, RamsAlike}
+use Rattle.net_core.specs.Runs.{variant_of, Run, shown}
+use Rattle.net_core.specs.Alike.{SameBit, SameBits, SameNets, SamePlaces, SameClock, SameReadClock, CombsAlike, RegsAlike, ReadsAlike, WritesAlike, MemsAlike, UsesAlike}
 use Rattle.net_core.specs.Renaming.{renamed_bit, renamed_bits, renamed_clock, renamed_read_clock, renamed_comb, renamed_reg, renamed_read, renamed_write, renamed_mem, renamed_slot, renamed_ram, renamed_pin, renamed_carried, renamed_wire, renamed, IsTold, RenamingKeepsRuns, RenamingKeepsTraces}
 use Rattle.net_core.proofs.Ordering.{map_at, map_get}
 use Rattle.net_core.proofs.AlikeCells.{comb_alike, reg_alike, mem_alike}
 use Rattle.net_core.proofs.AlikeRams.{ram_alike}
 
-map_joined : {X Y : Type 0} (h : X → Y) (xs ys : List X) → map h (xs ++ ys) ≡ map h xs ++ map h ys
+pub map_joined : {X Y : Type 0} (h : X → Y) (xs ys : List X) → map h (xs ++ ys) ≡ map h xs ++ map h ys
 map_joined h [] ys = refl
 map_joined h (x ∷ xs) ys = ap (λ r. h x ∷ r) (map_joined h xs ys)
 
-filter_map_same : {X : Type 0} (p : X → Bool) (h : X → X) → ((x : X) → p (h x) ≡ p x) → (xs : List X) → filter p (map h xs) ≡ map h (filter p xs)
+pub filter_map_same : {X : Type 0} (p : X → Bool) (h : X → X) → ((x : X) → p (h x) ≡ p x) → (xs : List X) → filter p (map h xs) ≡ map h (filter p xs)
 filter_map_same p h e [] = refl
 filter_map_same p h e (x ∷ xs) =
     let P : Bool → Type 0 = λ b. cond b (h x ∷ filter p (map h xs)) (filter p (map h xs)) ≡ map h (cond b (x ∷ filter p xs) (filter p xs)) in
@@ -46,7 +43,7 @@ filter_map_same p h e (x ∷ xs) =
     ap (λ b. cond b (h x ∷ filter p (map h xs)) (filter p (map h xs))) (e x) ∙ f
 
 module _ (f g : ℕ → ℕ) (told : IsTold f g) where
-  net_test : (n k : ℕ) → eqb (f n) (f k) ≡ eqb n k
+  pub net_test : (n k : ℕ) → eqb (f n) (f k) ≡ eqb n k
   net_test n k =
       elim (cases_eq n k) [
         | inl e ↦ eq-eqb (f n) (f k) (ap f e) ∙ sym (eq-eqb n k e)
@@ -172,7 +169,7 @@ module _ (f g : ℕ → ℕ) (told : IsTold f g) where
     uses_from (s ∷ ss) = (record { used = refl; level = refl; clock = clock_from s.clock; clken = bit_from s.clken; addr = bits_from s.addr; rden = bit_from s.rden; srst = bit_from s.srst; arst = bit_from s.arst; out = nets_from s.out; value = bits_from s.value; wren = bits_from s.wren; wrbe = bits_from s.wrbe; srst_value = refl; arst_value = refl; init_value = refl }, uses_from ss)
 
   -- the inputs and outputs are renamed
-  bits_joined : (xs ys : List Bit) → renamed_bits f (xs ++ ys) ≡ renamed_bits f xs ++ renamed_bits f ys
+  pub bits_joined : (xs ys : List Bit) → renamed_bits f (xs ++ ys) ≡ renamed_bits f xs ++ renamed_bits f ys
   bits_joined xs ys = map_joined (renamed_bit f) xs ys
 
   nets_renamed : (bs : List Bit) → nets_of (renamed_bits f bs) ≡ map f (nets_of bs)
@@ -181,7 +178,7 @@ module _ (f g : ℕ → ℕ) (told : IsTold f g) where
   nets_renamed (One ∷ bs) = nets_renamed bs
   nets_renamed (Net n ∷ bs) = ap (λ r. f n ∷ r) (nets_renamed bs)
 
-  wire_bits_renamed : (ws : List Wire) → wire_bits (map (renamed_wire f) ws) ≡ renamed_bits f (wire_bits ws)
+  pub wire_bits_renamed : (ws : List Wire) → wire_bits (map (renamed_wire f) ws) ≡ renamed_bits f (wire_bits ws)
   wire_bits_renamed [] = refl
   wire_bits_renamed (x ∷ xs) = ap (λ r. renamed_bits f x.bits ++ r) (wire_bits_renamed xs) ∙ sym (bits_joined x.bits (wire_bits xs))
 
@@ -195,7 +192,7 @@ module _ (f g : ℕ → ℕ) (told : IsTold f g) where
   by_port_renamed [] = refl
   by_port_renamed (x ∷ xs) = ap (insert_port (renamed_wire f x)) (by_port_renamed xs) ∙ insert_renamed x (by_port xs)
 
-  pins_renamed : (ps : List Pin) → bits_of_pins (map (renamed_pin f) ps) ≡ renamed_bits f (bits_of_pins ps)
+  pub pins_renamed : (ps : List Pin) → bits_of_pins (map (renamed_pin f) ps) ≡ renamed_bits f (bits_of_pins ps)
   pins_renamed [] = refl
   pins_renamed (p ∷ ps) = ap (λ r. renamed_bits f p.bits ++ r) (pins_renamed ps) ∙ sym (bits_joined p.bits (bits_of_pins ps))
 
@@ -215,7 +212,7 @@ module _ (f g : ℕ → ℕ) (told : IsTold f g) where
   ports_renamed p e xs =
       ap (λ r. wire_bits (by_port r)) (filter_map_same p (renamed_wire f) e xs) ∙ ap wire_bits (by_port_renamed (filter p xs)) ∙ wire_bits_renamed (by_port (filter p xs))
 
-  inputs_renamed : (m : Module) → inputs_of (renamed f m) ≡ map f (inputs_of m)
+  pub inputs_renamed : (m : Module) → inputs_of (renamed f m) ≡ map f (inputs_of m)
   inputs_renamed m =
       let wires = ports_renamed is_input_wire (λ x. refl) m.wires in
       let cells = driving_renamed m.carried in

@@ -1,6 +1,6 @@
 -- An ordered module has a run over every list of happenings: the values of nets are computed along the ranks, and each free
 -- choice is made once.
-use Rattle.std.proofs.Common.{◌≡◌, ℕ, zero, suc, ◌+◌, ◌-◌, ◌*◌, ◌<◌, ◌≤◌, Bool, true, false, cond, not, ◌&&◌, ◌⊎◌, inl, inr, List, [], ◌∷◌, ◌++◌, length, Option, Some, None, refl, sym, ap, ◌∙◌, subst, arith}
+use Rattle.std.proofs.Common.{◌≡◌, ℕ, zero, suc, ◌+◌, ◌*◌, ◌<◌, Bool, true, false, cond, ◌&&◌, inl, inr, List, [], ◌∷◌, ◌++◌, length, Option, Some, None, refl, sym, ap, ◌∙◌, subst, arith}
 use Rattle.std.specs.Prelude.{slice_get}
 use Rattle.std.proofs.Math.Dec.{eqb}
 use Rattle.std.proofs.lemmas.Option.{same_Some}
@@ -13,17 +13,15 @@ use Rattle.lib_core.specs.declared.library.Variant.{Variant}
 use Rattle.lib_core.specs.declared.library.PortKind.{PortKind}
 use Rattle.lib_core.specs.declared.library.PortKind.TheVariants.{Ar, Sr, Sw, Arsw, Srsw}
 use Rattle.lib_core.specs.Rams.{tri_at, lies, filled, last_width, reads_now, reads_later}
-use Rattle.net_core.specs.declared.bits.Bit.{Bit}
 use Rattle.net_core.specs.declared.bits.Clock.{Clock}
 use Rattle.net_core.specs.declared.cells.Comb.{Comb}
 use Rattle.net_core.specs.declared.cells.Reg.{Reg}
 use Rattle.net_core.specs.declared.mems.Mem.{Mem}
 use Rattle.net_core.specs.declared.mems.RdPort.{RdPort}
-use Rattle.net_core.specs.declared.mems.WrPort.{WrPort}
 use Rattle.net_core.specs.declared.rams.RamCell.{RamCell}
 use Rattle.net_core.specs.declared.rams.SlotUse.{SlotUse}
 use Rattle.net_core.specs.declared.modules.Module.{Module}
-use Rattle.net_core.specs.Values.{Valuation, Wave, Happening, At, value_of, values_of, number_of, tri_of, Agrees, Shows, same_bool, has_edge}
+use Rattle.net_core.specs.Values.{Valuation, Wave, Happening, At, number_of, tri_of, Agrees, same_bool}
 use Rattle.net_core.specs.Logic.{comb_shows}
 use Rattle.net_core.specs.Cells.{CombAllows, RegAllows, reg_shows, reg_next, has_arst}
 use Rattle.net_core.specs.Memory.{Frame, frame_of, base_of, hits, written, read_bit, read_shows, read_next, ReadAllows, MemAllows}
@@ -31,8 +29,8 @@ use Rattle.net_core.specs.Ram.{Slot, group_slots, skip, slots_from, slots_of, wo
 use Rattle.net_core.specs.Ports.{inputs_of}
 use Rattle.net_core.specs.Nodes.{Node, comb_node, reg_node, read_needs, read_node, slot_node, HasNet, Drives, Rises, Ordered}
 use Rattle.net_core.specs.Drivers.{Driver, Free, Input, CombOut, RegOut, ReadOut, SlotOut, HasOneDriver}
-use Rattle.net_core.specs.Runs.{variant_of, Run, Live, ReadsAgree}
-use Rattle.net_core.proofs.Basics.{get_joined, get_below, has_left, has_right, value_same, values_same}
+use Rattle.net_core.specs.Runs.{variant_of, Live, ReadsAgree}
+use Rattle.net_core.proofs.Basics.{get_joined, has_left, has_right, value_same, values_same}
 
 -- a value that a bit which may be undefined can have
 abbrev pub settled_bit : Tri → Bool

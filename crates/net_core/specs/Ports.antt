@@ -3,7 +3,6 @@
 use Rattle.std.specs.Prelude.{◌≡◌, ℕ, ℤ, Bool, true, false, cond, not, ◌&&◌, ◌||◌, List, [], ◌∷◌, ◌++◌, map, filter, length, Option, Some, None, slice_get, nat_eq, nat_le, position, option_map}
 use Rattle.std.specs.List.{flat_map, find}
 use Rattle.std.specs.Str.{bytes_eq}
-use Rattle.lib_core.specs.declared.library.Tri.{Tri}
 use Rattle.net_core.specs.declared.bits.Bit.{Bit}
 use Rattle.net_core.specs.declared.bits.Bit.TheVariants.{Zero as Low, One as High, Net}
 use Rattle.net_core.specs.declared.bits.Clock.{Clock}
@@ -12,13 +11,9 @@ use Rattle.net_core.specs.declared.bits.Edge.{Edge}
 use Rattle.net_core.specs.declared.bits.Event.{Event}
 use Rattle.net_core.specs.declared.mems.Attr.{Attr}
 use Rattle.net_core.specs.declared.mems.Mem.{Mem}
-use Rattle.net_core.specs.declared.mems.RdPort.{RdPort}
-use Rattle.net_core.specs.declared.mems.WrPort.{WrPort}
-use Rattle.net_core.specs.declared.cells.Reg.{Reg}
 use Rattle.net_core.specs.declared.cells.Pin.{Pin}
 use Rattle.net_core.specs.declared.cells.Carried.{Carried}
 use Rattle.net_core.specs.declared.rams.RamCell.{RamCell}
-use Rattle.net_core.specs.declared.rams.SlotUse.{SlotUse}
 use Rattle.net_core.specs.declared.modules.Wire.{Wire}
 use Rattle.net_core.specs.declared.modules.Module.{Module}
 use Rattle.net_core.specs.Values.{Happening}

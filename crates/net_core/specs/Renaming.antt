@@ -1,5 +1,5 @@
 -- A module with other numbers for its nets.
-use Rattle.std.specs.Prelude.{◌≡◌, ◌↔◌, ℕ, Bool, List, map, Option, Some, None, option_map}
+use Rattle.std.specs.Prelude.{◌≡◌, ◌↔◌, ℕ, Bool, List, map, Option, Some, None}
 use Rattle.lib_core.specs.declared.library.Library.{Library}
 use Rattle.net_core.specs.declared.bits.Bit.{Bit}
 use Rattle.net_core.specs.declared.bits.Bit.TheVariants.{Zero, One, Net}
@@ -17,7 +17,9 @@ use Rattle.net_core.specs.declared.rams.RamCell.{RamCell}
 use Rattle.net_core.specs.declared.modules.Wire.{Wire}
 use Rattle.net_core.specs.declared.modules.Module.{Module}
 use Rattle.net_core.specs.Values.{Wave, Happening}
-use Rattle.net_core.specs.Runs.{Run, HasTrace}
+use Rattle.net_core.specs.Nodes.{Ordered}
+use Rattle.net_core.specs.Ports.{Interface}
+use Rattle.net_core.specs.Runs.{Run, HasTrace, RefinesModule}
 
 module _ (f : ℕ → ℕ) where
   abbrev pub renamed_bit : Bit → Bit
@@ -99,3 +101,10 @@ RenamingKeepsRuns = (lib : Library) (m : Module) (f g : ℕ → ℕ) → IsTold 
 
 abbrev pub RenamingKeepsTraces : Type 0
 RenamingKeepsTraces = (lib : Library) (m : Module) (f g : ℕ → ℕ) → IsTold f g → (events : List Happening) (outs : List (List Bool)) → HasTrace lib (renamed f m) events outs ↔ HasTrace lib m events outs
+
+-- and it is to those around it what it was, and has the same orders
+abbrev pub RenamingRefines : Type 0
+RenamingRefines = (lib : Library) (modules : List Interface) (m : Module) (f g : ℕ → ℕ) → IsTold f g → RefinesModule lib modules m (renamed f m) × RefinesModule lib modules (renamed f m) m
+
+abbrev pub RenamingKeepsOrder : Type 0
+RenamingKeepsOrder = (m : Module) (f g : ℕ → ℕ) → IsTold f g → Ordered m ↔ Ordered (renamed f m)

@@ -2,7 +2,6 @@
 use Rattle.std.specs.Prelude.{ℕ, Bool, cond, if◌then◌else◌, ◌||◌, List, [], ◌∷◌, ◌++◌, length, Option, Some, None, codes, nat_eq}
 use Rattle.std.specs.List.{find}
 use Rattle.std.specs.Str.{bytes_eq, str_eq_ignore_ascii_case}
-use Rattle.lib_core.specs.declared.library.RamClass.{RamClass}
 use Rattle.lib_core.specs.declared.library.RamClass.TheVariants.{Distributed, Block, Huge}
 use Rattle.net_core.specs.declared.mems.Attr.{Attr}
 use Rattle.net_core.specs.declared.mems.Mem.{Mem}

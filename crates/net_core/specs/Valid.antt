@@ -1,6 +1,6 @@
 -- What holds of every module that a design text means or a rewriting makes: names, widths, lengths, drivers and limits. It is
 -- said under a library, and under the interfaces of the modules of a design, which tell the ports of instances.
-use Rattle.std.specs.Prelude.{◌≡◌, ℕ, suc, ◌+◌, ◌*◌, ◌^◌, ◌<◌, ◌≤◌, Bool, true, false, cond, not, ◌&&◌, ◌||◌, ◌⊎◌, List, [], ◌∷◌, ◌++◌, map, filter, length, Option, Some, None, slice_get, nat_eq, codes}
+use Rattle.std.specs.Prelude.{◌≡◌, ℕ, ◌+◌, ◌*◌, ◌^◌, ◌<◌, ◌≤◌, Bool, true, false, cond, not, ◌&&◌, ◌||◌, List, [], ◌∷◌, ◌++◌, map, filter, length, Option, Some, None, slice_get, nat_eq, codes}
 use Rattle.std.specs.List.{flat_map, list_all, list_any, find, sum_by, count_by}
 use Rattle.std.specs.Str.{bytes_eq}
 use Rattle.lib_core.specs.declared.library.Tri.{Tri}
@@ -23,7 +23,6 @@ use Rattle.net_core.specs.declared.mems.Attr.{Attr}
 use Rattle.net_core.specs.declared.mems.Mem.{Mem}
 use Rattle.net_core.specs.declared.mems.RdPort.{RdPort}
 use Rattle.net_core.specs.declared.mems.WrPort.{WrPort}
-use Rattle.net_core.specs.declared.rams.SlotUse.{SlotUse}
 use Rattle.net_core.specs.declared.rams.RamCell.{RamCell}
 use Rattle.net_core.specs.declared.modules.Wire.{Wire}
 use Rattle.net_core.specs.declared.modules.MemPart.{MemPart}
@@ -32,12 +31,12 @@ use Rattle.net_core.specs.declared.modules.Design.{Design}
 use Rattle.net_core.specs.Values.{bit_at}
 use Rattle.net_core.specs.Cells.{has_enable, has_arst, has_srst}
 use Rattle.net_core.specs.Ram.{Slot, slots_of}
-use Rattle.net_core.specs.Nodes.{Node, comb_node, reg_node, mem_nodes, nodes_of, HasNet, Drives}
+use Rattle.net_core.specs.Nodes.{Node, comb_node, reg_node, mem_nodes, nodes_of, HasNet, Drives, NetsWithin, Ordered}
 use Rattle.net_core.specs.Drivers.{HasOneDriver}
-use Rattle.net_core.specs.Ports.{Interface, PortFace, is_input_wire, is_inout, is_port, inputs_of, clocks_of, wire_bits, inout_pin_bits, is_inout_pin}
+use Rattle.net_core.specs.Ports.{Interface, PortFace, is_input_wire, is_inout, is_port, inputs_of, clocks_of, wire_bits, inout_pin_bits}
 use Rattle.net_core.specs.Pins.{all_bits, inner_bits}
 use Rattle.net_core.specs.Shape.{fits_library}
-use Rattle.net_core.specs.Runs.{variant_of, interfaces, ReadsAgree}
+use Rattle.net_core.specs.Runs.{variant_of, interfaces, ReadsAgree, Live}
 
 -- An identifier begins with a backslash or a dollar sign, goes on with at least one more byte, and has no white space.
 abbrev pub is_white : ℕ → Bool
@@ -375,3 +374,11 @@ pub record IsValidDesign (lib : Library) (d : Design) : Type 0 where
   pub modules : Each d.modules (IsValid lib (interfaces d))
   pub names : AreApart (map (λ (m : Module). m.name) d.modules)
   pub count : IsCounted d.modules
+
+-- The law: a valid module has nodes that numbers of 32 bits can name, over nets of its own.
+abbrev pub ValidNodes : Type 0
+ValidNodes = (lib : Library) (modules : List Interface) (m : Module) → IsValid lib modules m → (length (nodes_of m) < 2 ^ 32) × NetsWithin m
+
+-- The law: a valid module with a combinational order has a run over every list of happenings.
+abbrev pub OrderedValidIsLive : Type 0
+OrderedValidIsLive = (lib : Library) (modules : List Interface) (m : Module) → IsValid lib modules m → Ordered m → Live lib m

@@ -1,9 +1,10 @@
 //! Laws about runs, each the contract of a function that does nothing.
 ghost use Rattle.net_core.specs.Alike.{AlikeAllowedAlike};
 ghost use Rattle.net_core.specs.Nodes.{OrdersAgree, CycleHasNoOrder};
-ghost use Rattle.net_core.specs.Renaming.{RenamingKeepsRuns, RenamingKeepsTraces};
+ghost use Rattle.net_core.specs.Renaming.{RenamingKeepsRuns, RenamingKeepsTraces, RenamingRefines, RenamingKeepsOrder};
 ghost use Rattle.net_core.specs.Runs.{OrderedIsLive, RefinesItself, RefinementsCompose, KeepsDefined};
 ghost use Rattle.net_core.specs.Simulation.{SimulationRefines, SimulatesItself, SimulationsCompose, KeepsAlways, PatchedIsAllowed};
+ghost use Rattle.net_core.specs.Valid.{ValidNodes, OrderedValidIsLive};
 
 /// A module with a combinational order has a run over every list of happenings.
 pub fn ordered_is_live()
@@ -74,4 +75,24 @@ pub fn renaming_keeps_runs()
 /// A module with its nets renamed has the same traces.
 pub fn renaming_keeps_traces()
     ensures { RenamingKeepsTraces }
+{}
+
+/// The nodes of a valid module have numbers of 32 bits, and their nets are the module's.
+pub fn valid_nodes()
+    ensures { ValidNodes }
+{}
+
+/// A module with its nets renamed and the module refine each other.
+pub fn renaming_refines()
+    ensures { RenamingRefines }
+{}
+
+/// A module with its nets renamed has a combinational order exactly where the module has one.
+pub fn renaming_keeps_order()
+    ensures { RenamingKeepsOrder }
+{}
+
+/// A valid module with a combinational order has a run over every list of happenings.
+pub fn ordered_valid_is_live()
+    ensures { OrderedValidIsLive }
 {}

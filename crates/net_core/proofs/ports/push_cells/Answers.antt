@@ -1,4 +1,4 @@
-use Rattle.std.proofs.Common.{◌≡◌, ◌++◌, ap, ◌∙◌, sym, drop, ◌+◌, arith}
+use Rattle.std.proofs.Common.{◌++◌, ap, ◌∙◌, arith}
 use Rattle.std.specs.List.{filter}
 use Rattle.net_core.specs.Ports.{nets_of, driving_bits, bits_of_pins}
 use Rattle.net_core.proofs.Netlists.{flat_more}

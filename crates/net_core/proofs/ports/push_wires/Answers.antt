@@ -1,4 +1,4 @@
-use Rattle.std.proofs.Common.{◌≡◌, ◌++◌, ap, ◌∙◌, sym, drop, ◌+◌, arith}
+use Rattle.std.proofs.Common.{◌++◌, ap, ◌∙◌, sym, drop, ◌+◌, arith}
 use Rattle.net_core.specs.Ports.{nets_of}
 use Rattle.net_core.proofs.Netlists.{flat_more, refs_flat}
 use Rattle.net_core.proofs.ports.push_wires.Goals as goal

@@ -1,6 +1,5 @@
 use Rattle.std.proofs.Common.{◌≡◌, ◌++◌, map, drop}
-use Rattle.std.specs.List.{filter, flat_map}
-use Rattle.net_core.specs.Ports.{wire_bits, bits_of_pins, driving_bits, nets_of}
+use Rattle.net_core.specs.Ports.{wire_bits, nets_of}
 use Rattle.net_core.proofs.ports.push_wires.Given as goal
 
 abbrev pub invariant-loop-wire : goal.invariant-loop-wire

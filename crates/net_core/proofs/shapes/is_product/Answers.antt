@@ -1,4 +1,4 @@
-use Rattle.std.proofs.Common.{◌≡◌, ◌<◌, ◌≤◌, ◌∙◌, sym, arith, rules, ◌^◌}
+use Rattle.std.proofs.Common.{◌<◌, ◌∙◌, sym, arith, ◌^◌}
 use Rattle.std.proofs.lemmas.Bool.{ne_eqb}
 use Rattle.net_core.proofs.Numbers.{no_multiple, no_high_multiple}
 use Rattle.net_core.proofs.shapes.is_product.Goals as goal

@@ -1,4 +1,4 @@
-use Rattle.std.proofs.Common.{arith, ◌≡◌, ◌∙◌, sym}
+use Rattle.std.proofs.Common.{arith}
 use Rattle.net_core.proofs.Numbers.{width_at_is}
 use Rattle.std.proofs.lemmas.Grind.{common_steps}
 use Rattle.net_core.proofs.shapes.number_at.Goals as goal

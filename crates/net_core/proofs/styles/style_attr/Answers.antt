@@ -1,5 +1,4 @@
-use Rattle.std.proofs.Common.{◌≡◌, ◌<◌, ap, ◌∙◌, arith, length}
-use Rattle.net_core.specs.Style.{first_attr, style_names, ram_names}
+use Rattle.std.proofs.Common.{◌<◌, ap, arith, length}
 use Rattle.net_core.proofs.StyleLemmas.{names_of_written}
 use Rattle.net_core.proofs.styles.style_attr.Goals as goal
 
