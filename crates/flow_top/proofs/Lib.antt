@@ -1,3 +1,5 @@
+pub mod FmtLemmas
 pub mod OutcomeLemmas
 pub mod Repeating
+pub mod TextFaults
 pub mod WordLemmas

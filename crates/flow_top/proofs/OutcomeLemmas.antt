@@ -22,7 +22,7 @@ use Rattle.flow_top.specs.declared.status.LibCode.{LibCode}
 use Rattle.flow_top.specs.declared.status.Status.{Status}
 use Rattle.flow_top.specs.declared.status.Status.TheVariants.{Ok, Usage, ReadFault, WriteFault, Design, Library, NoFit, Limit, Memory}
 
-same_Some : {A : Type 0} (a b : A) → Some a ≡ Some b → a ≡ b
+pub same_Some : {A : Type 0} (a b : A) → Some a ≡ Some b → a ≡ b
 same_Some a b e = cc
 
 some_none : {A : Type 0} (a : A) (o : Option A) → o ≡ None → o ≡ Some a → ⊥
@@ -32,14 +32,14 @@ true_false : (b : Bool) → b ≡ true → b ≡ false → ⊥
 true_false b e f = cc
 
 -- what was read is what the file holds
-told_is : (told : Option Files) (files : Files) (name read held : List ℕ) → told ≡ Some files → Tells told name read → get files name ≡ Some held → held ≡ read
+pub told_is : (told : Option Files) (files : Files) (name read held : List ℕ) → told ≡ Some files → Tells told name read → get files name ≡ Some held → held ≡ read
 told_is None files name read held is tells there = cc
 told_is (Some known) files name read held is tells there =
     let same : known ≡ files = same_Some known files is in
     same_Some held read (sym there ∙ subst (λ f. get f name ≡ Some read) same tells)
 
 -- a file of which more was seen than a file may have does not fit
-too_long : (told : Option Files) (files : Files) (name held : List ℕ) (seen : ℕ) → told ≡ Some files → get files name ≡ Some held → length held ≤ 16777216 → 16777216 < seen → HasAtLeast told name seen → ⊥
+pub too_long : (told : Option Files) (files : Files) (name held : List ℕ) (seen : ℕ) → told ≡ Some files → get files name ≡ Some held → length held ≤ 16777216 → 16777216 < seen → HasAtLeast told name seen → ⊥
 too_long None files name held seen is there short long has = cc
 too_long (Some known) files name held seen is there short long has =
     let same : known ≡ files = same_Some known files is in
@@ -48,7 +48,7 @@ too_long (Some known) files name held seen is there short long has =
     let no : length held < length held = subst (λ bytes. length held < length bytes) (sym e) longer in
     omega arith
 
-short_read : (told : Option Files) (files : Files) (name read held : List ℕ) → told ≡ Some files → Tells told name read → length read ≤ 16777216 → get files name ≡ Some held → 16777216 < length held → ⊥
+pub short_read : (told : Option Files) (files : Files) (name read held : List ℕ) → told ≡ Some files → Tells told name read → length read ≤ 16777216 → get files name ≡ Some held → 16777216 < length held → ⊥
 short_read told files name read held is tells short there long =
     let e : held ≡ read = told_is told files name read held is tells there in
     let longer : 16777216 < length read = subst (λ bytes. 16777216 < length bytes) e long in

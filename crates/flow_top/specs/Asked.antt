@@ -12,8 +12,14 @@ pub record MapFiles : Type 0 where
   pub report : List ℕ
   pub workers : ℕ
 
+-- the files of fmt
+pub record FmtFiles : Type 0 where
+  pub design : List ℕ
+  pub out : List ℕ
+
 pub data Asked : Type 0 where
   Map : MapFiles → Asked
+  Fmt : FmtFiles → Asked
 
 -- from 1 to 64
 abbrev pub workers_within : Option ℕ → Option ℕ
@@ -31,4 +37,5 @@ map_with design library inferred netlist report (Some workers) =
 abbrev pub asked_of : List (List ℕ) → Option Asked
 asked_of (command ∷ design ∷ library ∷ inferred ∷ netlist ∷ report ∷ workers ∷ []) =
     if bytes_eq command (codes "map") then map_with design library inferred netlist report (worker_count workers) else None
+asked_of (command ∷ design ∷ out ∷ []) = if bytes_eq command (codes "fmt") then Some (Fmt (record { design = design; out = out })) else None
 asked_of words = None

@@ -1,8 +1,9 @@
 -- What a parsed command asks for.
-use Rattle.flow_top.specs.Asked.{Asked, MapFiles, Map as AskedMap}
+use Rattle.flow_top.specs.Asked.{Asked, MapFiles, Map as AskedMap, FmtFiles, Fmt as AskedFmt}
 use Rattle.flow_top.specs.declared.command.Command.{Command}
-use Rattle.flow_top.specs.declared.command.Command.TheVariants.{Map}
+use Rattle.flow_top.specs.declared.command.Command.TheVariants.{Map, Fmt}
 use Rattle.flow_top.specs.declared.command.MapCommand.{MapCommand}
+use Rattle.flow_top.specs.declared.command.FmtCommand.{FmtCommand}
 
 abbrev pub files_of : MapCommand → MapFiles
 files_of command = record {
@@ -14,5 +15,9 @@ files_of command = record {
   workers = command.workers;
 }
 
+abbrev pub fmt_files_of : FmtCommand → FmtFiles
+fmt_files_of command = record { design = command.design.now; out = command.out.now }
+
 abbrev pub asked_by : Command → Asked
 asked_by (Map command) = AskedMap (files_of command)
+asked_by (Fmt command) = AskedFmt (fmt_files_of command)

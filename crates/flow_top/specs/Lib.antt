@@ -3,6 +3,7 @@ pub mod Command
 pub mod DesignForm
 pub mod DesignText
 pub mod ExitStatus
+pub mod Formatting
 pub mod Joining
 pub mod LibraryForm
 pub mod LibraryText
@@ -12,6 +13,7 @@ pub mod Mapping
 pub mod Number
 pub mod Outcome
 pub mod Preparing
+pub mod Reading
 pub mod RefusalLine
 pub mod Statuses
 pub mod Template

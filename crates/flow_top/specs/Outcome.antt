@@ -3,7 +3,13 @@ use Rattle.std.specs.Prelude.{◌≡◌, ◌≢◌, ℕ, ◌<◌, ◌≤◌, tru
 use Rattle.std.specs.FinMap.{get}
 use Rattle.flow_io.specs.Files.{Files, Tells, HasAtLeast}
 use Rattle.flow_io.specs.Causes.{Rose}
-use Rattle.flow_top.specs.Asked.{Asked, MapFiles, Map}
+use Rattle.rtlil_print.specs.Print.{printed}
+use Rattle.rtlil_text.specs.declared.doc.Doc.{Doc}
+use Rattle.rtlil_text.specs.Reads.{Reads}
+use Rattle.rtlil_text.specs.Text.{IsWithinLimits}
+use Rattle.flow_top.specs.Asked.{Asked, MapFiles, Map, FmtFiles, Fmt}
+use Rattle.flow_top.specs.Reading.{TellsFault}
+use Rattle.flow_top.specs.declared.status.Counted.{Counted}
 use Rattle.flow_top.specs.DesignForm.{first_design, design_word}
 use Rattle.flow_top.specs.LibraryForm.{first_library}
 use Rattle.flow_top.specs.MappedForm.{fits}
@@ -41,17 +47,40 @@ pub record MapWrites (asked : MapFiles) (told : Option Files) (texts : List (Lis
   pub meets : MapMeets design library inferred netlist report
   pub texts_are : texts ≡ (asked.inferred, inferred) ∷ (asked.netlist, netlist) ∷ (asked.report, report) ∷ []
 
+-- what fmt writes: the printed text of the document that the file reads as
+pub record FmtWrites (asked : FmtFiles) (told : Option Files) (texts : List (List ℕ × List ℕ)) : Type 0 where
+  pub design : List ℕ
+  pub doc : Doc
+  pub design_told : Tells told asked.design design
+  pub design_short : length design ≤ 16777216
+  pub reads : Reads design doc
+  pub texts_are : texts ≡ (asked.out, printed doc) ∷ []
+
 -- the texts that a command may write at these files, in their order
 abbrev pub MayWrite : Asked → Option Files → List (List ℕ × List ℕ) → Type 0
 MayWrite (Map asked) told texts = MapWrites asked told texts
+MayWrite (Fmt asked) told texts = FmtWrites asked told texts
 
 -- a file that a command reads
-abbrev pub Reads : Asked → List ℕ → Type 0
-Reads (Map asked) name = (name ≡ asked.design) ⊎ (name ≡ asked.library)
+abbrev pub ReadsFile : Asked → List ℕ → Type 0
+ReadsFile (Map asked) name = (name ≡ asked.design) ⊎ (name ≡ asked.library)
+ReadsFile (Fmt asked) name = name ≡ asked.design
 
 -- a limit is told of a file that passes it
+abbrev pub HasLongCause : Asked → Option Files → Counted → ℕ → Type 0
+HasLongCause asked told counts seen = (counts ≡ counted.File) × ((16777216 < seen) × ((name : List ℕ) × (ReadsFile asked name × HasAtLeast told name seen)))
+
+-- the text that fmt reads is none, and the status tells its first fault
+pub record FmtReadsNone (asked : FmtFiles) (told : Option Files) (status : Status) : Type 0 where
+  pub design : List ℕ
+  pub design_told : Tells told asked.design design
+  pub design_short : length design ≤ 16777216
+  pub tells : TellsFault design status
+
+-- a limit is told of a file that passes it, or of a text
 abbrev pub HasLimitCause : Asked → Option Files → Status → Type 0
-HasLimitCause asked told (Limit counts seen) = (counts ≡ counted.File) × ((16777216 < seen) × ((name : List ℕ) × (Reads asked name × HasAtLeast told name seen)))
+HasLimitCause (Map asked) told (Limit counts seen) = HasLongCause (Map asked) told counts seen
+HasLimitCause (Fmt asked) told (Limit counts seen) = HasLongCause (Fmt asked) told counts seen ⊎ FmtReadsNone asked told (Limit counts seen)
 HasLimitCause asked told other = ⊤
 
 -- the design that a command reads is none
@@ -90,11 +119,15 @@ abbrev pub HasRefusalCause : Asked → Option Files → Status → Type 0
 HasRefusalCause (Map asked) told (Design inside name line code) = MapDesignIsNone asked told × ((inside ≡ []) × ((name ≡ []) × ((line ≡ 0) × (code ≡ design_code.NotYet))))
 HasRefusalCause (Map asked) told (Library line code) = MapLibraryIsNone asked told × ((line ≡ 0) × (code ≡ library_code.NotYet))
 HasRefusalCause (Map asked) told (NoFit inside memory) = MapFitsNothing asked told inside memory
+HasRefusalCause (Fmt asked) told (Design inside name line code) = FmtReadsNone asked told (Design inside name line code)
+HasRefusalCause (Fmt asked) told (Library line code) = ⊥
+HasRefusalCause (Fmt asked) told (NoFit inside memory) = ⊥
 HasRefusalCause asked told other = ⊤
 
--- where a refusal leaves its line, and other files stay
+-- where a refusal leaves its line, if it leaves one, and other files stay
 abbrev pub LeavesLine : Asked → Look → Look → Status → Type 0
 LeavesLine (Map asked) before after status = LineLeft before.files after.files asked.report (refusal_line status) before.writes after.writes
+LeavesLine (Fmt asked) before after status = after.files ≡ before.files
 
 -- what files hold at each status
 abbrev pub FilesAfter : Asked → Look → Look → Status → Type 0
@@ -119,8 +152,17 @@ pub record MapFits (asked : MapFiles) (files : Files) : Type 0 where
   pub is_library : first_library library ≡ Some ram
   pub suits : fits sizes ram ≡ true
 
+pub record FmtFits (asked : FmtFiles) (files : Files) : Type 0 where
+  pub design : List ℕ
+  pub doc : Doc
+  pub design_there : get files asked.design ≡ Some design
+  pub design_short : length design ≤ 16777216
+  pub reads : Reads design doc
+  pub within : IsWithinLimits design doc
+
 abbrev pub Fits : Asked → Files → Type 0
 Fits (Map asked) files = MapFits asked files
+Fits (Fmt asked) files = FmtFits asked files
 
 -- nothing is in the way of a command
 pub record IsFree (asked : Asked) (before after : Look) (files : Files) : Type 0 where
@@ -149,8 +191,14 @@ pub record HasLongFile (asked : MapFiles) (files : Files) : Type 0 where
   pub design_there : get files asked.design ≡ Some design
   pub long : (16777216 < length design) ⊎ ((library : List ℕ) × ((get files asked.library ≡ Some library) × ((16777216 < length library) × (is_some (first_design design) ≡ true))))
 
+pub record HasLongText (asked : FmtFiles) (files : Files) : Type 0 where
+  pub design : List ℕ
+  pub design_there : get files asked.design ≡ Some design
+  pub long : 16777216 < length design
+
 abbrev pub StopsAtLongFile : Asked → Look → Status → Type 0
 StopsAtLongFile (Map asked) before status = (files : Files) → before.files ≡ Some files → HasLongFile asked files → IsStop status
+StopsAtLongFile (Fmt asked) before status = (files : Files) → before.files ≡ Some files → HasLongText asked files → IsStop status
 
 -- all that holds of a command that was understood
 pub record Outcome (asked : Asked) (before after : Look) (status : Status) : Type 0 where

@@ -1,12 +1,11 @@
 -- What map has before it writes: the texts, or the status that it ends with.
-use Rattle.std.specs.Prelude.{◌≡◌, ℕ, ◌<◌, ◌≤◌, List, length, ⊤, Option}
-use Rattle.flow_io.specs.Files.{Files, Tells, HasAtLeast}
+use Rattle.std.specs.Prelude.{◌≡◌, ℕ, ◌≤◌, List, length, ⊤, Option}
+use Rattle.flow_io.specs.Files.{Files, Tells}
 use Rattle.flow_io.specs.Causes.{Rose}
 use Rattle.flow_top.specs.Asked.{MapFiles, Map}
 use Rattle.flow_top.specs.Mapping.{Makes}
 use Rattle.flow_top.specs.Outcome.{HasLimitCause, HasRefusalCause}
 use Rattle.flow_top.specs.declared.mapping.Made.{Made}
-use Rattle.flow_top.specs.declared.status.Counted.TheVariants as counted
 use Rattle.flow_top.specs.declared.status.Status.{Status}
 use Rattle.flow_top.specs.declared.status.Status.TheVariants.{Ok, Usage, ReadFault, WriteFault, Design, Library, NoFit, Limit, Memory}
 
@@ -19,13 +18,6 @@ pub record Prepared (asked : MapFiles) (told : Option Files) (made : Made) : Typ
   pub design_short : length design ≤ 16777216
   pub library_short : length library ≤ 16777216
   pub makes : Makes design library made
-
--- why a read stopped the command
-abbrev pub ReadStops : Option Files → List ℕ → ℕ → ℕ → Status → Type 0
-ReadStops told name before now ReadFault = Rose before now
-ReadStops told name before now (Limit counts seen) = (counts ≡ counted.File) × ((16777216 < seen) × HasAtLeast told name seen)
-ReadStops told name before now Memory = ⊤
-ReadStops told name before now other = ⊥
 
 -- why the command stopped before it wrote
 abbrev pub Stopped : MapFiles → Option Files → ℕ → ℕ → Status → Type 0

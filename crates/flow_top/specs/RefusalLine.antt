@@ -5,6 +5,8 @@ use Rattle.flow_io.specs.Files.{Files, put, HoldsPart}
 use Rattle.flow_io.specs.Causes.{Rose}
 use Rattle.flow_top.specs.ExitStatus.{exit_of}
 use Rattle.flow_top.specs.Joining.{joined}
+use Rattle.rtlil_text.specs.declared.fault.TextCode.{TextCode}
+use Rattle.rtlil_text.specs.declared.fault.TextCode.TheVariants as text
 use Rattle.flow_top.specs.declared.status.DesignCode.{DesignCode}
 use Rattle.flow_top.specs.declared.status.DesignCode.TheVariants as design
 use Rattle.flow_top.specs.declared.status.LibCode.{LibCode}
@@ -12,8 +14,17 @@ use Rattle.flow_top.specs.declared.status.LibCode.TheVariants as library
 use Rattle.flow_top.specs.declared.status.Status.{Status}
 use Rattle.flow_top.specs.declared.status.Status.TheVariants.{Ok, Usage, ReadFault, WriteFault, Design, Library, NoFit, Limit, Memory}
 
+-- the number of a text's fault; want of memory is told as such, and never as a fault of the text
+abbrev pub text_fault : TextCode → ℕ
+text_fault text.Token = 1
+text_fault text.Grammar = 2
+text_fault text.Process = 3
+text_fault text.Limit = 4
+text_fault text.Memory = 5
+
 abbrev pub design_fault : DesignCode → ℕ
 design_fault design.NotYet = 90
+design_fault (design.Text code) = text_fault code
 
 abbrev pub library_fault : LibCode → ℕ
 library_fault library.NotYet = 90

@@ -10,6 +10,14 @@ use crate::number::number_of;
 #[derive(Clone, Copy)]
 pub enum Command<'a> {
     Map(MapCommand<'a>),
+    Fmt(FmtCommand<'a>),
+}
+
+/// The files of `fmt`.
+#[derive(Clone, Copy)]
+pub struct FmtCommand<'a> {
+    pub design: &'a str,
+    pub out: &'a str,
 }
 
 /// The files of `map`, and how many workers plan.
@@ -51,6 +59,10 @@ pub fn parse(words: &[String]) -> Option<Command<'_>>
                 workers,
             }))
         }
+        [command, design, out] if command.as_str() == "fmt" => Some(Command::Fmt(FmtCommand {
+            design: design.as_str(),
+            out: out.as_str(),
+        })),
         _ => None,
     }
 }

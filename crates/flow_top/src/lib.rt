@@ -3,11 +3,13 @@
 
 mod command;
 mod design_form;
+mod formatting;
 mod joining;
 mod library_form;
 mod mapped_form;
 mod mapping;
 mod number;
+mod reading;
 mod refusal;
 mod sizes;
 pub mod status;

@@ -1,6 +1,5 @@
 //! The command `map`.
-ghost use Rattle.std.specs.Prelude.{◌≡◌, ◌≤◌, IfOk, IfErr, IsTrue, Some, length};
-ghost use Rattle.flow_io.specs.Files.{Tells};
+ghost use Rattle.std.specs.Prelude.{◌≡◌, ◌≤◌, IfOk, IfErr, IsTrue, Some};
 ghost use Rattle.flow_top.specs.Asked.{Map as AskedMap};
 ghost use Rattle.flow_top.specs.Command.{files_of};
 ghost use Rattle.flow_top.specs.DesignForm.{first_design, design_word};
@@ -8,22 +7,19 @@ ghost use Rattle.flow_top.specs.LibraryForm.{first_library, IsSmall};
 ghost use Rattle.flow_top.specs.MappedForm.{fits, netlist_text, report_text};
 ghost use Rattle.flow_top.specs.Mapping.{Makes, RefusesDesign, RefusesLibrary, RefusesFit};
 ghost use Rattle.flow_top.specs.Outcome.{Outcome, look_of};
-ghost use Rattle.flow_top.specs.Preparing.{Prepared, Stopped, ReadStops};
-ghost use Rattle.flow_top.specs.Statuses.{status_of_read, status_of_write, FaultIsOfWrite};
+ghost use Rattle.flow_top.specs.Preparing.{Prepared, Stopped};
 
 use crate::command::MapCommand;
 use crate::design_form::{Sizes, design_word, first_design};
 use crate::library_form::{Ram, first_library};
 use crate::mapped_form::{fits, netlist_text, report_text};
+use crate::reading::{read, write_status};
 use crate::refusal::refuse;
-use crate::status::{Counted, DesignCode, LibCode, Status};
+use crate::status::{DesignCode, LibCode, Status};
 use crate::texts::{Text, write_texts};
-use flow_io::{Desk, DeskFault};
+use flow_io::Desk;
 use lib_core::{Memory, Name};
 use std::alloc::Global;
-
-/// The bytes that a file may have.
-pub const MOST_BYTES: u64 = 16_777_216;
 
 /// The texts that `map` writes.
 #[derive(Drop)]
@@ -31,32 +27,6 @@ pub struct Made {
     pub inferred: Vec<u8>,
     pub netlist: Vec<u8>,
     pub report: Vec<u8>,
-}
-
-/// The status of a read that gave nothing.
-fn read_status(fault: DeskFault) -> Status
-    ensures { result ≡ status_of_read fault }
-{
-    match fault {
-        DeskFault::Failed => Status::ReadFault,
-        DeskFault::TooLong { seen } => Status::Limit {
-            counted: Counted::File,
-            seen,
-        },
-        DeskFault::Memory => Status::Memory,
-    }
-}
-
-/// The status of writes that stopped.
-fn write_status(fault: DeskFault) -> Status
-    requires { FaultIsOfWrite fault }
-    ensures { result ≡ status_of_write fault }
-{
-    match fault {
-        DeskFault::Failed => Status::WriteFault,
-        DeskFault::TooLong { .. } => unreachable!(),
-        DeskFault::Memory => Status::Memory,
-    }
 }
 
 /// The sizes of the memory of a design, or the refusal.
@@ -90,18 +60,6 @@ fn check_library(alloc: Global, library: &[u8]) -> Result<Ram, Status>
         }),
         Err(_) => Err(Status::Memory),
     }
-}
-
-/// Reads a file, or says which status ends the command.
-fn read<D: Desk>(alloc: Global, name: &str, desk: &mut D) -> Result<Vec<u8>, Status>
-    ensures told { IfOk result (λ bytes. Tells (D.files desk.old) name.now bytes.items) }
-    ensures within { IfOk result (λ bytes. length bytes.items ≤ 16777216) }
-    ensures stops { IfErr result (ReadStops (D.files desk.old) name.now (D.read_faults desk.old) (D.read_faults desk.new)) }
-    ensures files_stay { D.files desk.new ≡ D.files desk.old }
-    ensures reads_later { D.read_faults desk.old ≤ D.read_faults desk.new }
-    ensures writes_later { D.write_faults desk.old ≤ D.write_faults desk.new }
-{
-    desk.read_file(alloc, name, MOST_BYTES).map_err(read_status)
 }
 
 /// The refusal that names the memory of a design.

@@ -1,22 +1,43 @@
 //! The line that a refused command leaves.
 ghost use Rattle.std.specs.Prelude.{◌≡◌, ◌⊎◌, ◌≤◌, IfOk};
-ghost use Rattle.flow_top.specs.RefusalLine.{refusal_line, name_of, fault_of, line_in, shown_name, is_refusal, LineLeft, Refused};
+ghost use Rattle.flow_top.specs.RefusalLine.{refusal_line, text_fault, design_fault, name_of, fault_of, line_in, shown_name, is_refusal, LineLeft, Refused};
 
 use crate::joining::{decimal, joined};
 use crate::status::{DesignCode, LibCode, Status};
 use flow_io::{Desk, DeskFault};
 use lib_core::Memory;
+use rtlil_text::TextCode;
 use std::alloc::Global;
+
+/// The number of a text's fault.
+fn text_fault(code: TextCode) -> u64
+    ensures { result ≡ text_fault code }
+{
+    match code {
+        TextCode::Token => 1,
+        TextCode::Grammar => 2,
+        TextCode::Process => 3,
+        TextCode::Limit => 4,
+        TextCode::Memory => 5,
+    }
+}
+
+/// The number of a design's fault.
+fn design_fault(code: DesignCode) -> u64
+    ensures { result ≡ design_fault code }
+{
+    match code {
+        DesignCode::NotYet => 90,
+        DesignCode::Text(code) => text_fault(code),
+    }
+}
 
 /// The number of the fault in a status, 0 where it has none.
 fn fault_of(status: &Status) -> u64
     ensures { result ≡ fault_of status.now }
 {
     match status {
-        Status::Design {
-            code: DesignCode::NotYet,
-            ..
-        } => 90,
+        Status::Design { code, .. } => design_fault(*code),
         Status::Library {
             code: LibCode::NotYet,
             ..

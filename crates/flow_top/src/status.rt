@@ -3,12 +3,15 @@ ghost use Rattle.std.specs.Prelude.{◌≡◌};
 ghost use Rattle.flow_top.specs.ExitStatus.{exit_of};
 
 use lib_core::Name;
+use rtlil_text::TextCode;
 
 /// What is wrong with a design.
 #[derive(Clone, Copy, Debug, PartialEq, Eq)]
 pub enum DesignCode {
     /// A form that this program does not read yet.
     NotYet,
+    /// Its text is no RTLIL.
+    Text(TextCode),
 }
 
 /// What is wrong with a library.

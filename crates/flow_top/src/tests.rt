@@ -1,6 +1,7 @@
-use crate::{Counted, Status, refusal_line, run};
+use crate::{Counted, DesignCode, Status, refusal_line, run};
 use flow_io::{DeskFile, MemDesk};
 use lib_core::{List, Name};
+use rtlil_text::TextCode;
 use std::alloc::{AllocError, Global};
 use std::test::Fail;
 
@@ -349,5 +350,61 @@ fn long_and_missing_files(rt: HostRuntime) -> Result<(), Fail> {
         refusal_line(alloc, &Status::Usage)?.as_slice(),
         b"refused 2 0 0 -\n".as_slice()
     );
+    Ok(())
+}
+
+#[test]
+fn formats(rt: HostRuntime) -> Result<(), Fail> {
+    let alloc = rt.alloc();
+    let asked = words(alloc, "fmt d o")?;
+    let text = "autoidx 7\nmodule \\m # one\n\n wire\twidth 2 \\a\r\n connect \\a 2'1 # c\nend\n";
+    let mut whole = desk(alloc, text.as_bytes(), b"", &[])?;
+    assert_eq!(rt; run(&rt, alloc, asked.as_slice(), &mut whole), Status::Ok);
+    let printed = "module \\m\n  wire width 2 \\a\n  connect \\a 2'01\nend\n";
+    assert!(rt; has(&whole, "o", printed.as_bytes()));
+    let mut failing = desk(alloc, text.as_bytes(), b"", &[1])?;
+    assert_eq!(rt;
+        run(&rt, alloc, asked.as_slice(), &mut failing),
+        Status::WriteFault
+    );
+    assert!(rt; has(&failing, "o", &printed.as_bytes()[..printed.len() / 2]));
+    Ok(())
+}
+
+/// The code and the line of a design that was refused for its text.
+fn text_fault(status: &Status) -> Option<(TextCode, u32)> {
+    match status {
+        Status::Design {
+            line,
+            code: DesignCode::Text(code),
+            ..
+        } => Some((*code, *line)),
+        _ => None,
+    }
+}
+
+#[test]
+fn text_faults(rt: HostRuntime) -> Result<(), Fail> {
+    let alloc = rt.alloc();
+    let asked = words(alloc, "fmt d o")?;
+    for (text, code, line) in [
+        (
+            "module \\m\nprocess $p\nend\nend\n",
+            TextCode::Process,
+            2u32,
+        ),
+        (
+            "module \\m\nwire \\a\nwire \\a\nend\n",
+            TextCode::Grammar,
+            3,
+        ),
+        ("module \\m\n  wire \"\\a\nend\n", TextCode::Token, 2),
+        ("module \\m\n\n", TextCode::Grammar, 1),
+    ] {
+        let mut desk = desk(alloc, text.as_bytes(), b"", &[])?;
+        let status = run(&rt, alloc, asked.as_slice(), &mut desk);
+        assert_eq!(rt; text_fault(&status), Some((code, line)), "at {text}");
+        assert!(rt; desk.file("o").is_none());
+    }
     Ok(())
 }

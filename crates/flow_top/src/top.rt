@@ -6,6 +6,7 @@ ghost use Rattle.flow_top.specs.Command.{asked_by};
 ghost use Rattle.flow_top.specs.Outcome.{Outcome, look_of, HasLimitCause, HasRefusalCause, StopsAtLongFile, FilesAfter, IsComplete};
 
 use crate::command::{Command, parse};
+use crate::formatting::format_text;
 use crate::mapping::map;
 use crate::status::Status;
 use flow_io::Desk;
@@ -17,6 +18,8 @@ use std::thread::Threads;
 /// `map DESIGN LIBRARY INFERRED NETLIST REPORT WORKERS` reads a design and a RAM library and writes
 /// the inferred design, the netlist and the report. A refusal leaves its line in REPORT. WORKERS is
 /// a number from 1 to 64.
+///
+/// `fmt DESIGN OUT` reads a design's text and writes the printed text of the same document.
 ///
 /// Any other list of words is `Usage`.
 pub fn run<D: Desk, R: Threads + Sync>(
@@ -60,5 +63,6 @@ fn perform<D: Desk, R: Threads + Sync>(
 {
     match command {
         Command::Map(command) => map(alloc, command, desk),
+        Command::Fmt(command) => format_text(alloc, command, desk),
     }
 }
