@@ -11,6 +11,8 @@ pub mod Patching
 pub mod Refining
 pub mod RenamedFrame
 pub mod RenamedNets
+pub mod Searching
 pub mod Settle
 pub mod Sorting
 pub mod StyleLemmas
+pub mod Wired

@@ -9,8 +9,10 @@ pub mod Ports
 pub mod Ram
 pub mod Renaming
 pub mod Runs
+pub mod Search
 pub mod Shape
 pub mod Simulation
 pub mod Style
 pub mod Valid
 pub mod Values
+pub mod Wiring

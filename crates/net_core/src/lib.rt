@@ -7,8 +7,13 @@ mod copies;
 pub mod laws;
 pub mod mems;
 pub mod modules;
+mod nodes;
+mod order;
+#[cfg(test)]
+mod order_tests;
 pub mod ports;
 pub mod rams;
+mod search;
 pub mod shapes;
 pub mod styles;
 #[cfg(test)]
@@ -18,7 +23,9 @@ pub use bits::{Bit, Clock, Edge, Event};
 pub use cells::{Carried, Comb, CombKind, FfKind, Pin, Reg};
 pub use mems::{Attr, Mem, MemJob, Pair, Place, RdPort, Style, WrPort};
 pub use modules::{Design, MemPart, Module, Wire};
+pub use order::comb_order;
 pub use ports::inputs;
 pub use rams::{RamCell, SlotUse};
+pub use search::LoopFault;
 pub use shapes::{cell_fits, variant_of};
 pub use styles::style_of;
