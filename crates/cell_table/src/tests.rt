@@ -9,7 +9,7 @@ use std::test::Fail;
 
 /// A cell whose operands are constant, and what it shows, low bit first.
 #[derive(Drop)]
-struct Case<'a> {
+struct TableRow<'a> {
     kind: CombKind,
     signed: bool,
     a: &'a [bool],
@@ -25,8 +25,8 @@ fn case<'a>(
     b: &'a [bool],
     s: &'a [bool],
     shown: &'a [bool],
-) -> Case<'a> {
-    Case {
+) -> TableRow<'a> {
+    TableRow {
         kind,
         signed,
         a,
@@ -48,7 +48,7 @@ fn constants(alloc: Global, bits: &[bool]) -> Result<List<Bit>, Memory>
 }
 
 /// What the case's cell shows, where each free choice is 1.
-fn shown(alloc: Global, case: &Case<'_>) -> Result<Vec<bool>, Memory> {
+fn shown(alloc: Global, case: &TableRow<'_>) -> Result<Vec<bool>, Memory> {
     let width = case.shown.len();
     let cell = Comb {
         name: Name::from_vec(Vec::new(alloc)),
