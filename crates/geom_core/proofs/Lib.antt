@@ -1,0 +1,4 @@
+pub mod Bounds
+pub mod Lifting
+pub mod Samples
+pub mod Units

@@ -1,0 +1,10 @@
+use Rattle.std.proofs.Common.{◌≡◌, ◌++◌, ◌≤◌, ◌+◌, length}
+use Rattle.std.specs.List.{flat_map}
+use Rattle.lib_judge.specs.Faults.{judges_of, last_from, names_of_all, names_repeat}
+use Rattle.lib_judge.proofs.faults.last_from.Given as goal
+
+abbrev pub invariant-loop-rest : goal.invariant-loop-rest
+invariant-loop-rest l = last_from l.last l.rest ≡ last_from l.first l.widths
+
+abbrev pub decreases-loop-rest : goal.decreases-loop-rest
+decreases-loop-rest l = length l.rest

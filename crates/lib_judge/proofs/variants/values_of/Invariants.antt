@@ -1,0 +1,10 @@
+use Rattle.std.proofs.Common.{◌≡◌, ◌++◌, ◌≤◌, length, map, [], ◌∷◌}
+use Rattle.std.specs.List.{flat_map}
+use Rattle.lib_judge.specs.Variants.{capped_count, extend, mentions, names_from, row_with, rows_from, values_from}
+use Rattle.lib_judge.proofs.variants.values_of.Given as goal
+
+abbrev pub invariant-loop-rest : goal.invariant-loop-rest
+invariant-loop-rest l = values_from l.name l.values.items l.rest ≡ values_from l.name [] l.choices
+
+abbrev pub decreases-loop-rest : goal.decreases-loop-rest
+decreases-loop-rest l = length l.rest

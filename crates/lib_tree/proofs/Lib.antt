@@ -1,0 +1,11 @@
+pub mod Begun
+pub mod ByLine
+pub mod Codes
+pub mod Cuts
+pub mod FirstFault
+pub mod LineTokens
+pub mod Lines
+pub mod Numbers
+pub mod Runs
+pub mod Spelled
+pub mod Whole
