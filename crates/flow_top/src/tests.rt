@@ -371,6 +371,18 @@ fn formats(rt: HostRuntime) -> Result<(), Fail> {
     Ok(())
 }
 
+/// A design whose text breaks off within its memory cell.
+const BROKEN_OFF: &str = "module \\top
+  wire input 1 \\clk
+  wire input 2 \\we
+  wire width 4 input 3 \\wa
+  wire width 4 input 4 \\wd
+  wire width 4 input 5 \\ra
+  wire width 4 output 6 \\q
+  cell $mem_v2 $m
+    parameter \\MEMID \"\\\\m\"
+    parameter \\SIZE 16";
+
 /// The code and the line of a design that was refused for its text.
 fn text_fault(status: &Status) -> Option<(TextCode, u32)> {
     match status {
@@ -400,6 +412,7 @@ fn text_faults(rt: HostRuntime) -> Result<(), Fail> {
         ),
         ("module \\m\n  wire \"\\a\nend\n", TextCode::Token, 2),
         ("module \\m\n\n", TextCode::Grammar, 1),
+        (BROKEN_OFF, TextCode::Grammar, 10),
     ] {
         let mut desk = desk(alloc, text.as_bytes(), b"", &[])?;
         let status = run(&rt, alloc, asked.as_slice(), &mut desk);
