@@ -32,12 +32,12 @@ def cells(size):
 
 
 def contents(size):
-    """Cells with long INIT parameters, each of at most MOST_DIGITS digits."""
+    """Instances with long INIT parameters, each of at most MOST_DIGITS digits."""
     lines = ["module \\top"]
     number = 0
     while size > 0:
         digits = min(size, MOST_DIGITS)
-        lines.append(f"  cell $mem_v2 $m{number}\n    parameter \\INIT {digits}'" + "01" * (digits // 2) + "\n  end")
+        lines.append(f"  cell \\rom $rom{number}\n    parameter \\INIT {digits}'" + "01" * (digits // 2) + "\n  end")
         size -= digits
         number += 1
     return "\n".join(lines + ["end", ""])
