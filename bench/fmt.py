@@ -9,6 +9,8 @@ import shutil
 import sys
 import tempfile
 
+from timing import run
+
 MEGABYTE = 1_000_000
 MOST_DIGITS = 4_000_000
 
@@ -50,24 +52,13 @@ def wires(size):
     return "\n".join(["module \\top"] + [f"  wire width 3 \\{pad}{n}" for n in range(count)] + ["end", ""])
 
 
-def run(words):
-    """The seconds and the peak memory in bytes of a run that has to end well."""
-    child = os.fork()
-    if child == 0:
-        silent = os.open(os.devnull, os.O_WRONLY)
-        os.dup2(silent, 1)
-        os.dup2(silent, 2)
-        os.execvp(words[0], words)
-    _, status, usage = os.wait4(child, 0)
-    if status != 0:
-        sys.exit(f"{' '.join(words)} ended with {os.waitstatus_to_exitcode(status)}")
-    return usage.ru_utime + usage.ru_stime, usage.ru_maxrss * 1024
-
-
 def best(words):
-    """The least time and memory of three runs."""
+    """The least time and memory of three runs that have to end well."""
     runs = [run(words) for _ in range(3)]
-    return min(t for t, _ in runs), min(m for _, m in runs)
+    for _, _, status in runs:
+        if status != 0:
+            sys.exit(f"{' '.join(words)} ended with {status}")
+    return min(t for t, _, _ in runs), min(m for _, m, _ in runs)
 
 
 def main():

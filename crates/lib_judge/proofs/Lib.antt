@@ -1,0 +1,4 @@
+pub mod Grouped
+pub mod Looked
+pub mod Single
+pub mod Twice

@@ -1,6 +1,6 @@
 -- The fault of a RAM: what stands twice comes first, then what is missing, then widths that do not fit together, then
 -- limits. What depends on a variant is judged in all of them, or in none where they are more than 256.
-use Rattle.std.specs.Prelude.{ℕ, zero, suc, ◌+◌, ◌-◌, ◌/◌, ◌^◌, ◌==◌, Bool, true, false, List, [], ◌∷◌, ◌++◌, length, map, Option, Some, None, ◌&&◌, ◌||◌, not, nat_lt, nat_le, if◌then◌else◌}
+use Rattle.std.specs.Prelude.{ℕ, ◌-◌, ◌/◌, ◌^◌, ◌==◌, Bool, List, [], ◌∷◌, ◌++◌, length, map, Option, Some, None, ◌&&◌, ◌||◌, nat_lt, nat_le, if◌then◌else◌}
 use Rattle.std.specs.List.{flat_map, list_any}
 use Rattle.lib_core.specs.declared.library.Choice.{Choice}
 use Rattle.lib_core.specs.CellNames.{is_cell}
@@ -12,6 +12,7 @@ use Rattle.lib_judge.specs.declared.judge.Sizes.{Sizes}
 use Rattle.lib_judge.specs.declared.raw.RawPort.{RawPort}
 use Rattle.lib_judge.specs.declared.raw.RawRam.{RawRam}
 use Rattle.lib_judge.specs.declared.sketch.Sketch.{Sketch}
+use Rattle.lib_judge.specs.Names.{names_of_all, names_repeat}
 use Rattle.lib_judge.specs.Judge.{is_bad, is_missing, is_twice, plain_sizes, sizes_from}
 use Rattle.lib_judge.specs.Sketch.{sketch_of}
 use Rattle.lib_judge.specs.Variants.{capped_count, has_name, rows_from}
@@ -29,10 +30,10 @@ is_large z = nat_le z.abits 20 && nat_lt (4194304 / 2 ^ (z.abits - (length z.wid
 abbrev pub is_wide : List ℕ → Bool
 is_wide ws = list_any (λ w. nat_lt 1024 w) ws
 
-abbrev pub judged : List RawPort → Sketch → Sizes → Judged
-judged ports k z = record {
-  twice = is_twice ports k;
-  missing = is_missing ports k;
+abbrev pub judged : List (List ℕ) → List RawPort → Sketch → Sizes → Judged
+judged known ports k z = record {
+  twice = is_twice known ports k;
+  missing = is_missing known ports k;
   bad_widths = is_bad z k;
   many_widths = nat_lt 8 (length z.widths);
   high_abits = nat_lt 20 z.abits;
@@ -42,7 +43,7 @@ judged ports k z = record {
 }
 
 abbrev pub judge_of : RawRam → List Choice → Judged
-judge_of ram row = judged ram.ports (sketch_of ram row) (sizes_from plain_sizes (sketch_of ram row).items)
+judge_of ram row = judged (names_of_all ram.ports) ram.ports (sketch_of ram row) (sizes_from plain_sizes (sketch_of ram row).items)
 
 abbrev pub judges_of : RawRam → List (List Choice) → List Judged
 judges_of ram rows = map (λ row. judge_of ram row) rows
@@ -77,13 +78,6 @@ any_large js = list_any (λ j. j.large) js
 
 abbrev pub many_names : List RawPort → Bool
 many_names ports = list_any (λ p. nat_lt 8 (length p.names)) ports
-
-unfoldable pub names_repeat : List (List ℕ) → Bool
-names_repeat [] = false
-names_repeat (n ∷ ns) = has_name ns n || names_repeat ns
-
-abbrev pub names_of_all : List RawPort → List (List ℕ)
-names_of_all ports = flat_map (λ p. p.names) ports
 
 -- the options of the RAM, then those of its ports
 abbrev pub all_options : RawRam → List (List Choice)

@@ -1,6 +1,6 @@
 -- What is wrong with a RAM: something stands twice in a variant, something is missing in one, or the widths of one do
 -- not fit together.
-use Rattle.std.specs.Prelude.{ℕ, zero, suc, ◌+◌, ◌*◌, ◌%◌, ◌==◌, Bool, true, false, List, [], ◌∷◌, length, Option, Some, None, ◌&&◌, ◌||◌, not, nat_lt, nat_le}
+use Rattle.std.specs.Prelude.{ℕ, ◌+◌, ◌*◌, ◌%◌, ◌==◌, Bool, true, false, List, [], ◌∷◌, length, Option, Some, None, ◌&&◌, ◌||◌, not, nat_lt, nat_le}
 use Rattle.std.specs.List.{list_all, list_any}
 use Rattle.std.specs.Str.{bytes_eq}
 use Rattle.lib_core.specs.declared.library.Fill.TheVariants as fill
@@ -63,9 +63,6 @@ unfoldable pub items_repeat : List Item → Bool
 items_repeat [] = false
 items_repeat (i ∷ is) = stands_again i is || items_repeat is
 
-abbrev pub names_port : List RawPort → List ℕ → Bool
-names_port ports n = list_any (λ p. has_name p.names n) ports
-
 abbrev pub has_both : List ℕ → List ℕ → RawPort → Bool
 has_both n m p = has_name p.names n && has_name p.names m
 
@@ -79,46 +76,47 @@ same_target ports n m = bytes_eq n m || one_group ports n m
 abbrev pub one_overlap : List RawPort → List (List ℕ) → List ℕ → Bool
 one_overlap ports ms n = list_any (λ m. same_target ports n m) ms
 
-abbrev pub any_named : List RawPort → List (List ℕ) → Bool
-any_named ports ns = list_any (λ n. names_port ports n) ns
+-- a name is of some port; known are the names of all ports
+abbrev pub any_named : List (List ℕ) → List (List ℕ) → Bool
+any_named known ns = list_any (λ n. has_name known n) ns
 
 abbrev pub any_overlap : List RawPort → List (List ℕ) → List (List ℕ) → Bool
 any_overlap ports ns ms = list_any (λ n. one_overlap ports ms n) ns
 
 -- all names every group
-abbrev pub overlap : List RawPort → Targets → Targets → Bool
-overlap ports targets.All targets.All = true
-overlap ports targets.All (targets.Named ns) = any_named ports ns
-overlap ports (targets.Named ns) targets.All = any_named ports ns
-overlap ports (targets.Named ns) (targets.Named ms) = any_overlap ports ns ms
+abbrev pub overlap : List (List ℕ) → List RawPort → Targets → Targets → Bool
+overlap known ports targets.All targets.All = true
+overlap known ports targets.All (targets.Named ns) = any_named known ns
+overlap known ports (targets.Named ns) targets.All = any_named known ns
+overlap known ports (targets.Named ns) (targets.Named ms) = any_overlap ports ns ms
 
 -- wrtrans and wrprio may repeat where no two name one group
-abbrev pub same_setting : List RawPort → Setting → Setting → Bool
-same_setting ports (setting.Clock e) (setting.Clock d) = true
-same_setting ports setting.Clken setting.Clken = true
-same_setting ports setting.Rden setting.Rden = true
-same_setting ports (setting.Rdwr o) (setting.Rdwr q) = true
-same_setting ports (setting.Wrtrans t s) (setting.Wrtrans u r) = overlap ports t u
-same_setting ports (setting.Wrprio t) (setting.Wrprio u) = overlap ports t u
-same_setting ports (setting.Rdsrst f g) (setting.Rdsrst e h) = true
-same_setting ports (setting.Rdarst f) (setting.Rdarst e) = true
-same_setting ports (setting.Rdinit f) (setting.Rdinit e) = true
-same_setting ports setting.WrbeSeparate setting.WrbeSeparate = true
-same_setting ports (setting.Width t ns) (setting.Width u ms) = true
-same_setting ports a b = false
+abbrev pub same_setting : List (List ℕ) → List RawPort → Setting → Setting → Bool
+same_setting known ports (setting.Clock e) (setting.Clock d) = true
+same_setting known ports setting.Clken setting.Clken = true
+same_setting known ports setting.Rden setting.Rden = true
+same_setting known ports (setting.Rdwr o) (setting.Rdwr q) = true
+same_setting known ports (setting.Wrtrans t s) (setting.Wrtrans u r) = overlap known ports t u
+same_setting known ports (setting.Wrprio t) (setting.Wrprio u) = overlap known ports t u
+same_setting known ports (setting.Rdsrst f g) (setting.Rdsrst e h) = true
+same_setting known ports (setting.Rdarst f) (setting.Rdarst e) = true
+same_setting known ports (setting.Rdinit f) (setting.Rdinit e) = true
+same_setting known ports setting.WrbeSeparate setting.WrbeSeparate = true
+same_setting known ports (setting.Width t ns) (setting.Width u ms) = true
+same_setting known ports a b = false
 
-abbrev pub is_set_again : List RawPort → Setting → List Setting → Bool
-is_set_again ports s ss = list_any (λ t. same_setting ports s t) ss
+abbrev pub is_set_again : List (List ℕ) → List RawPort → Setting → List Setting → Bool
+is_set_again known ports s ss = list_any (λ t. same_setting known ports s t) ss
 
-unfoldable pub settings_repeat : List RawPort → List Setting → Bool
-settings_repeat ports [] = false
-settings_repeat ports (s ∷ ss) = is_set_again ports s ss || settings_repeat ports ss
+unfoldable pub settings_repeat : List (List ℕ) → List RawPort → List Setting → Bool
+settings_repeat known ports [] = false
+settings_repeat known ports (s ∷ ss) = is_set_again known ports s ss || settings_repeat known ports ss
 
-abbrev pub any_repeat : List RawPort → List (List Setting) → Bool
-any_repeat ports sss = list_any (λ ss. settings_repeat ports ss) sss
+abbrev pub any_repeat : List (List ℕ) → List RawPort → List (List Setting) → Bool
+any_repeat known ports sss = list_any (λ ss. settings_repeat known ports ss) sss
 
-abbrev pub is_twice : List RawPort → Sketch → Bool
-is_twice ports k = items_repeat k.items || any_repeat ports k.ports
+abbrev pub is_twice : List (List ℕ) → List RawPort → Sketch → Bool
+is_twice known ports k = items_repeat k.items || any_repeat known ports k.ports
 
 -- ---- missing
 
@@ -132,26 +130,26 @@ has_clock ss = list_any (λ s. is_clock s) ss
 abbrev pub lacks_clock : PortKind → List Setting → Bool
 lacks_clock kind ss = has_property kind property.Clock && not (has_clock ss)
 
-abbrev pub any_unknown : List RawPort → List (List ℕ) → Bool
-any_unknown ports ns = list_any (λ n. not (names_port ports n)) ns
+abbrev pub any_unknown : List (List ℕ) → List (List ℕ) → Bool
+any_unknown known ns = list_any (λ n. not (has_name known n)) ns
 
-abbrev pub lacks : List RawPort → Targets → Bool
-lacks ports targets.All = false
-lacks ports (targets.Named ns) = any_unknown ports ns
+abbrev pub lacks : List (List ℕ) → Targets → Bool
+lacks known targets.All = false
+lacks known (targets.Named ns) = any_unknown known ns
 
-abbrev pub lacks_target : List RawPort → Setting → Bool
-lacks_target ports (setting.Wrtrans t s) = lacks ports t
-lacks_target ports (setting.Wrprio t) = lacks ports t
-lacks_target ports s = false
+abbrev pub lacks_target : List (List ℕ) → Setting → Bool
+lacks_target known (setting.Wrtrans t s) = lacks known t
+lacks_target known (setting.Wrprio t) = lacks known t
+lacks_target known s = false
 
-abbrev pub any_lacks : List RawPort → List Setting → Bool
-any_lacks ports ss = list_any (λ s. lacks_target ports s) ss
+abbrev pub any_lacks : List (List ℕ) → List Setting → Bool
+any_lacks known ss = list_any (λ s. lacks_target known s) ss
 
 -- a port lacks its clock, or a name is of no port
-unfoldable pub missing_in : List RawPort → List RawPort → List (List Setting) → Bool
-missing_in all [] sss = false
-missing_in all (p ∷ ps) [] = false
-missing_in all (p ∷ ps) (ss ∷ sss) = (lacks_clock p.kind ss || any_lacks all ss) || missing_in all ps sss
+unfoldable pub missing_in : List (List ℕ) → List RawPort → List (List Setting) → Bool
+missing_in known [] sss = false
+missing_in known (p ∷ ps) [] = false
+missing_in known (p ∷ ps) (ss ∷ sss) = (lacks_clock p.kind ss || any_lacks known ss) || missing_in known ps sss
 
 abbrev pub has_abits : List Item → Bool
 has_abits is = list_any (λ i. is_abits i) is
@@ -159,8 +157,8 @@ has_abits is = list_any (λ i. is_abits i) is
 abbrev pub has_widths : List Item → Bool
 has_widths is = list_any (λ i. sets_widths i) is
 
-abbrev pub is_missing : List RawPort → Sketch → Bool
-is_missing ports k = not (has_abits k.items) || not (has_widths k.items) || missing_in ports ports k.ports
+abbrev pub is_missing : List (List ℕ) → List RawPort → Sketch → Bool
+is_missing known ports k = not (has_abits k.items) || not (has_widths k.items) || missing_in known ports k.ports
 
 -- ---- what the items of a variant say
 

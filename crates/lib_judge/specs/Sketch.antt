@@ -1,5 +1,5 @@
 -- What counts in a variant: a block counts where its option has its value there, with all that is in it.
-use Rattle.std.specs.Prelude.{ℕ, zero, suc, ◌+◌, ◌-◌, ◌==◌, Bool, List, [], ◌∷◌, length, take, drop, Option, Some, None, if◌then◌else◌, ◌&&◌}
+use Rattle.std.specs.Prelude.{ℕ, zero, ◌+◌, ◌-◌, ◌==◌, Bool, List, [], ◌∷◌, length, take, drop, Option, Some, None, if◌then◌else◌, ◌&&◌}
 use Rattle.lib_core.specs.declared.library.Choice.{Choice}
 use Rattle.lib_tree.specs.declared.statement.Item.{Item}
 use Rattle.lib_tree.specs.declared.statement.Scope.{Scope}

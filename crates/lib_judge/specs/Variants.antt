@@ -1,6 +1,6 @@
 -- The choices of option values that make variants: options in the order of their first mention, the values of each
 -- in theirs, one of each, and the last option varies fastest.
-use Rattle.std.specs.Prelude.{ℕ, ◌*◌, Bool, true, false, List, [], ◌∷◌, ◌++◌, length, map, Option, Some, None, ◌==◌, ◌&&◌, not, if◌then◌else◌, min}
+use Rattle.std.specs.Prelude.{ℕ, ◌*◌, Bool, false, List, [], ◌∷◌, ◌++◌, length, map, Option, Some, None, ◌==◌, ◌&&◌, if◌then◌else◌, min}
 use Rattle.std.specs.List.{flat_map, list_any}
 use Rattle.std.specs.Str.{bytes_eq}
 use Rattle.lib_core.specs.declared.library.Choice.{Choice}
@@ -39,19 +39,26 @@ unfoldable pub mentions : Scope → List Statement → List Choice
 mentions s [] = []
 mentions s (t ∷ ts) = and_mentions (option_in s t) (mentions s ts)
 
--- names that are there, and those of options that are not, each at its first mention
-unfoldable pub names_from : List (List ℕ) → List Choice → List (List ℕ)
-names_from ns [] = ns
-names_from ns (c ∷ cs) = names_from (if has_name ns c.name then ns else ns ++ c.name ∷ []) cs
+-- the name of the option whose values these are
+abbrev pub first_name : List Choice → List ℕ
+first_name [] = []
+first_name (c ∷ cs) = c.name
 
--- choices that are there, and those of the option that are not, each at its first mention
-unfoldable pub values_from : List ℕ → List Choice → List Choice → List Choice
-values_from n vs [] = vs
-values_from n vs (c ∷ cs) = values_from n (if bytes_eq c.name n && not (has_choice vs c) then vs ++ c ∷ [] else vs) cs
+abbrev pub with_value : List Choice → Choice → List Choice
+with_value vs c = if has_choice vs c then vs else vs ++ c ∷ []
+
+-- a choice among the values of its option, at its first mention, or of a new option behind the others
+unfoldable pub with_choice : List (List Choice) → Choice → List (List Choice)
+with_choice [] c = (c ∷ []) ∷ []
+with_choice (vs ∷ axes) c = if bytes_eq c.name (first_name vs) then with_value vs c ∷ axes else vs ∷ with_choice axes c
+
+unfoldable pub axes_from : List (List Choice) → List Choice → List (List Choice)
+axes_from axes [] = axes
+axes_from axes (c ∷ cs) = axes_from (with_choice axes c) cs
 
 -- the values of each option
 abbrev pub axes : List Choice → List (List Choice)
-axes cs = map (λ n. values_from n [] cs) (names_from [] cs)
+axes cs = axes_from [] cs
 
 -- a row with each choice behind it
 abbrev pub row_with : List Choice → List Choice → List (List Choice)

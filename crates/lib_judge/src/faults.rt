@@ -1,9 +1,11 @@
 //! The fault of a RAM.
-ghost use Rattle.std.specs.Prelude.{◌≡◌, ◌||◌, ◌≤◌, ◌<◌, ◌+◌, ◌++◌, ◌∷◌, [], IfOk, OnOk, length, map};
+ghost use Rattle.std.specs.Prelude.{◌≡◌, ◌||◌, ◌≤◌, ◌<◌, ◌+◌, ◌++◌, ◌∷◌, [], IfOk, OnOk, length, map, false};
 ghost use Rattle.std.specs.List.{flat_map};
-ghost use Rattle.lib_judge.specs.Faults.{all_options, any_bad, any_costly, any_high, any_large, any_many, any_missing, any_twice, any_wide, fault, fault_of, first_of, is_large, is_wide, judge_of, judges_of, last_from, limit_fault, limit_of, many_names, named_twice, names_of_all, names_repeat, ram_fault, rows_to_judge};
+ghost use Rattle.lib_judge.specs.Faults.{all_options, any_bad, any_costly, any_high, any_large, any_many, any_missing, any_twice, any_wide, fault, fault_of, first_of, is_large, is_wide, judge_of, judges_of, last_from, limit_fault, limit_of, many_names, named_twice, ram_fault, rows_to_judge};
+ghost use Rattle.lib_judge.specs.Names.{names_of_all, names_repeat};
 
 use crate::judge::{Sizes, is_bad, is_missing, is_twice, sizes_of};
+use crate::names::{Names, distinct};
 use crate::raw::{RawPort, RawRam};
 use crate::sketch::sketch_of;
 use crate::variants::{capped_count, has_name, rows};
@@ -68,14 +70,15 @@ fn is_wide(widths: &[u32]) -> bool
     widths.iter().any(|width| *width > 1024)
 }
 
-fn judge_of(alloc: Global, ram: &RawRam, row: &[Choice]) -> Result<Judged, Memory>
+fn judge_of(alloc: Global, known: &Names, ram: &RawRam, row: &[Choice]) -> Result<Judged, Memory>
+    requires { known.now ≡ names_of_all ram.now.ports }
     ensures { IfOk result (λ judged. judged ≡ judge_of ram.now row.now) }
 {
     let sketch = sketch_of(alloc, ram, row)?;
     let sizes = sizes_of(alloc, sketch.items.as_slice())?;
     Ok(Judged {
-        twice: is_twice(ram.ports.as_slice(), &sketch),
-        missing: is_missing(ram.ports.as_slice(), &sketch),
+        twice: is_twice(known, ram.ports.as_slice(), &sketch),
+        missing: is_missing(known, ram.ports.as_slice(), &sketch),
         bad_widths: is_bad(&sizes, &sketch),
         many_widths: sizes.widths.as_slice().len() > 8,
         high_abits: sizes.abits > 20,
@@ -85,13 +88,19 @@ fn judge_of(alloc: Global, ram: &RawRam, row: &[Choice]) -> Result<Judged, Memor
     })
 }
 
-fn judges_of(alloc: Global, ram: &RawRam, rows: &[List<Choice>]) -> Result<Vec<Judged>, Memory>
+fn judges_of(
+    alloc: Global,
+    known: &Names,
+    ram: &RawRam,
+    rows: &[List<Choice>],
+) -> Result<Vec<Judged>, Memory>
+    requires { known.now ≡ names_of_all ram.now.ports }
     ensures { IfOk result (λ judges. judges.items ≡ judges_of ram.now rows.now) }
 {
     let mut judges = Vec::new(alloc);
     let mut rest = rows;
     while let [row, tail @ ..] = rest {
-        judges.push(judge_of(alloc, ram, row.as_slice())?)?;
+        judges.push(judge_of(alloc, known, ram, row.as_slice())?)?;
         rest = tail;
     }
     Ok(judges)
@@ -150,21 +159,6 @@ fn many_names(ports: &[RawPort]) -> bool
     ensures { result ≡ many_names ports.now }
 {
     ports.iter().any(|port| port.names.as_slice().len() > 8)
-}
-
-/// Whether a name stands twice.
-#[tactic(auto, unfolding(crate::specs::Faults::names_repeat))]
-fn names_repeat(names: &[Name]) -> bool
-    ensures { result ≡ names_repeat names.now }
-{
-    let mut rest = names;
-    while let [name, tail @ ..] = rest {
-        if has_name(tail, name) {
-            return true;
-        }
-        rest = tail;
-    }
-    false
 }
 
 fn add_names(alloc: Global, names: &mut Vec<Name>, more: &[Name]) -> Result<(), Memory>
@@ -269,19 +263,19 @@ fn fault(code: LibCode) -> Option<RamFault>
 }
 
 /// Whether a name is one that it may not be.
-fn named_twice(earlier: &[Name], ram: &RawRam, names: &[Name]) -> bool
-    ensures { result ≡ named_twice earlier.now ram.now names.now }
+fn named_twice(earlier: &[Name], ram: &RawRam) -> bool
+    requires { names_repeat (names_of_all ram.now.ports) ≡ false }
+    ensures { result ≡ named_twice earlier.now ram.now (names_of_all ram.now.ports) }
 {
     let of_cell = is_cell_name(ram.name.as_slice());
     let of_ram = has_name(earlier, &ram.name);
-    let of_port = names_repeat(names);
-    any_of_three(of_cell, of_ram, of_port)
+    either(of_cell, of_ram)
 }
 
-fn any_of_three(a: bool, b: bool, c: bool) -> bool
-    ensures { result ≡ (a || b || c) }
+fn either(a: bool, b: bool) -> bool
+    ensures { result ≡ (a || b) }
 {
-    a || b || c
+    a || b
 }
 
 fn limit_fault(limit: Option<u64>) -> Option<RamFault>
@@ -312,29 +306,41 @@ fn first_of(twice: bool, missing: bool, bad_widths: bool, limit: Option<u64>) ->
 }
 
 /// The first fault of a RAM behind others with these names, by what is wrong with its variants.
-fn fault_of(
-    alloc: Global,
-    earlier: &[Name],
-    ram: &RawRam,
-    variants: usize,
-    judges: &[Judged],
-) -> Result<Option<RamFault>, Memory>
-    ensures { IfOk result (λ fault. fault ≡ fault_of earlier.now ram.now variants judges.now) }
+fn fault_of(earlier: &[Name], ram: &RawRam, variants: usize, judges: &[Judged]) -> Option<RamFault>
+    requires { names_repeat (names_of_all ram.now.ports) ≡ false }
+    ensures { result ≡ fault_of earlier.now ram.now variants judges.now }
 {
-    let names = names_of_all(alloc, ram.ports.as_slice())?;
-    let twice = named_twice(earlier, ram, names.as_slice()) || any_twice(judges);
+    let twice = named_twice(earlier, ram) || any_twice(judges);
     let missing = ram.ports.as_slice().is_empty() || any_missing(judges);
     let limit = limit_of(earlier.len(), variants, ram.ports.as_slice(), judges);
-    Ok(first_of(twice, missing, any_bad(judges), limit))
+    first_of(twice, missing, any_bad(judges), limit)
+}
+
+/// The first fault of a RAM behind others with these names, none of whose own names stands twice.
+fn fault_behind(
+    alloc: Global,
+    earlier: &[Name],
+    known: &Names,
+    ram: &RawRam,
+) -> Result<Option<RamFault>, Memory>
+    requires known { known.now ≡ names_of_all ram.now.ports }
+    requires once { names_repeat (names_of_all ram.now.ports) ≡ false }
+    ensures { IfOk result (λ fault. fault ≡ ram_fault earlier.now ram.now) }
+{
+    let options = all_options(alloc, ram)?;
+    let variants = capped_count(options.as_slice());
+    let rows = rows_to_judge(alloc, options.as_slice())?;
+    let judges = judges_of(alloc, known, ram, rows.as_slice())?;
+    Ok(fault_of(earlier, ram, variants, judges.as_slice()))
 }
 
 /// The first fault of a RAM behind others with these names.
 pub fn ram_fault(alloc: Global, earlier: &[Name], ram: &RawRam) -> Result<Option<RamFault>, Memory>
     ensures { IfOk result (λ fault. fault ≡ ram_fault earlier.now ram.now) }
 {
-    let options = all_options(alloc, ram)?;
-    let variants = capped_count(options.as_slice());
-    let rows = rows_to_judge(alloc, options.as_slice())?;
-    let judges = judges_of(alloc, ram, rows.as_slice())?;
-    fault_of(alloc, earlier, ram, variants, judges.as_slice())
+    let names = names_of_all(alloc, ram.ports.as_slice())?;
+    match distinct(alloc, names.as_slice())? {
+        Some(known) => fault_behind(alloc, earlier, &known, ram),
+        None => Ok(fault(LibCode::Twice)),
+    }
 }

@@ -1,7 +1,8 @@
 //! What is wrong with a RAM.
 ghost use Rattle.std.specs.Prelude.{◌≡◌, ◌≤◌, ◌<◌, ◌+◌, ◌++◌, ◌∷◌, [], IfOk, length, map};
-ghost use Rattle.lib_judge.specs.Judge.{all_fit, all_known, any_lacks, any_named, any_overlap, any_repeat, any_unknown, fits_byte, fits_bytes, has_abits, has_both, has_clock, has_widths, is_abits, is_bad, is_byte, is_clock, is_cost, is_init, is_missing, is_set_again, is_style, is_twice, is_width, items_repeat, lacks, lacks_clock, lacks_target, missing_in, names_port, one_group, one_overlap, overlap, plain_sizes, ports_known, rises, rises_from, same_item, same_setting, same_target, sets_widths, settings_known, settings_repeat, sizes_from, stands_again, widths_known, with_item};
+ghost use Rattle.lib_judge.specs.Judge.{all_fit, all_known, any_lacks, any_named, any_overlap, any_repeat, any_unknown, fits_byte, fits_bytes, has_abits, has_both, has_clock, has_widths, is_abits, is_bad, is_byte, is_clock, is_cost, is_init, is_missing, is_set_again, is_style, is_twice, is_width, items_repeat, lacks, lacks_clock, lacks_target, missing_in, one_group, one_overlap, overlap, plain_sizes, ports_known, rises, rises_from, same_item, same_setting, same_target, sets_widths, settings_known, settings_repeat, sizes_from, stands_again, widths_known, with_item};
 
+use crate::names::Names;
 use crate::raw::{RawPort, RawRam};
 use crate::sketch::Sketch;
 use crate::variants::has_name;
@@ -86,15 +87,6 @@ fn items_repeat(items: &[Item]) -> bool
     false
 }
 
-/// Whether a port has the name.
-pub fn names_port(ports: &[RawPort], name: &Name) -> bool
-    ensures { result ≡ names_port ports.now name.now }
-{
-    ports
-        .iter()
-        .any(|port| has_name(port.names.as_slice(), name))
-}
-
 /// Whether two names are of one group.
 fn same_target(ports: &[RawPort], a: &Name, b: &Name) -> bool
     ensures { result ≡ same_target ports.now a.now b.now }
@@ -122,10 +114,10 @@ fn one_overlap(ports: &[RawPort], name: &Name, names: &[Name]) -> bool
 }
 
 /// Whether a name is of a group.
-fn any_named(ports: &[RawPort], names: &[Name]) -> bool
-    ensures { result ≡ any_named ports.now names.now }
+fn any_named(known: &Names, names: &[Name]) -> bool
+    ensures { result ≡ any_named known.now names.now }
 {
-    names.iter().any(|name| names_port(ports, name))
+    names.iter().any(|name| known.has(name))
 }
 
 fn any_overlap(ports: &[RawPort], names: &[Name], others: &[Name]) -> bool
@@ -135,23 +127,23 @@ fn any_overlap(ports: &[RawPort], names: &[Name], others: &[Name]) -> bool
 }
 
 /// Whether two statements of one property name one group.
-fn overlap(ports: &[RawPort], a: &Targets, b: &Targets) -> bool
-    ensures { result ≡ overlap ports.now a.now b.now }
+fn overlap(known: &Names, ports: &[RawPort], a: &Targets, b: &Targets) -> bool
+    ensures { result ≡ overlap known.now ports.now a.now b.now }
 {
     match a {
         Targets::All => match b {
             Targets::All => true,
-            Targets::Named(names) => any_named(ports, names.as_slice()),
+            Targets::Named(names) => any_named(known, names.as_slice()),
         },
         Targets::Named(names) => match b {
-            Targets::All => any_named(ports, names.as_slice()),
+            Targets::All => any_named(known, names.as_slice()),
             Targets::Named(others) => any_overlap(ports, names.as_slice(), others.as_slice()),
         },
     }
 }
 
-fn same_setting(ports: &[RawPort], a: &Setting, b: &Setting) -> bool
-    ensures { result ≡ same_setting ports.now a.now b.now }
+fn same_setting(known: &Names, ports: &[RawPort], a: &Setting, b: &Setting) -> bool
+    ensures { result ≡ same_setting known.now ports.now a.now b.now }
 {
     match a {
         Setting::Clock(_) => matches!(b, Setting::Clock(_)),
@@ -159,11 +151,11 @@ fn same_setting(ports: &[RawPort], a: &Setting, b: &Setting) -> bool
         Setting::Rden => matches!(b, Setting::Rden),
         Setting::Rdwr(_) => matches!(b, Setting::Rdwr(_)),
         Setting::Wrtrans { targets, .. } => match b {
-            Setting::Wrtrans { targets: other, .. } => overlap(ports, targets, other),
+            Setting::Wrtrans { targets: other, .. } => overlap(known, ports, targets, other),
             _ => false,
         },
         Setting::Wrprio(targets) => match b {
-            Setting::Wrprio(other) => overlap(ports, targets, other),
+            Setting::Wrprio(other) => overlap(known, ports, targets, other),
             _ => false,
         },
         Setting::Rdsrst { .. } => matches!(b, Setting::Rdsrst { .. }),
@@ -175,22 +167,22 @@ fn same_setting(ports: &[RawPort], a: &Setting, b: &Setting) -> bool
 }
 
 /// Whether the property is among the properties.
-fn is_set_again(ports: &[RawPort], setting: &Setting, settings: &[Setting]) -> bool
-    ensures { result ≡ is_set_again ports.now setting.now settings.now }
+fn is_set_again(known: &Names, ports: &[RawPort], setting: &Setting, settings: &[Setting]) -> bool
+    ensures { result ≡ is_set_again known.now ports.now setting.now settings.now }
 {
     settings
         .iter()
-        .any(|other| same_setting(ports, setting, other))
+        .any(|other| same_setting(known, ports, setting, other))
 }
 
 /// Whether a property stands twice.
 #[tactic(auto, unfolding(crate::specs::Judge::settings_repeat))]
-fn settings_repeat(ports: &[RawPort], settings: &[Setting]) -> bool
-    ensures { result ≡ settings_repeat ports.now settings.now }
+fn settings_repeat(known: &Names, ports: &[RawPort], settings: &[Setting]) -> bool
+    ensures { result ≡ settings_repeat known.now ports.now settings.now }
 {
     let mut rest = settings;
     while let [setting, tail @ ..] = rest {
-        if is_set_again(ports, setting, tail) {
+        if is_set_again(known, ports, setting, tail) {
             return true;
         }
         rest = tail;
@@ -198,19 +190,19 @@ fn settings_repeat(ports: &[RawPort], settings: &[Setting]) -> bool
     false
 }
 
-pub fn is_twice(ports: &[RawPort], sketch: &Sketch) -> bool
-    ensures { result ≡ is_twice ports.now sketch.now }
+pub fn is_twice(known: &Names, ports: &[RawPort], sketch: &Sketch) -> bool
+    ensures { result ≡ is_twice known.now ports.now sketch.now }
 {
-    items_repeat(sketch.items.as_slice()) || any_repeat(ports, sketch.ports.as_slice())
+    items_repeat(sketch.items.as_slice()) || any_repeat(known, ports, sketch.ports.as_slice())
 }
 
 /// Whether a property stands twice in one of the ports.
-fn any_repeat(ports: &[RawPort], settings: &[List<Setting>]) -> bool
-    ensures { result ≡ any_repeat ports.now settings.now }
+fn any_repeat(known: &Names, ports: &[RawPort], settings: &[List<Setting>]) -> bool
+    ensures { result ≡ any_repeat known.now ports.now settings.now }
 {
     settings
         .iter()
-        .any(|own| settings_repeat(ports, own.as_slice()))
+        .any(|own| settings_repeat(known, ports, own.as_slice()))
 }
 
 fn is_clock(setting: &Setting) -> bool
@@ -232,42 +224,42 @@ fn has_clock(settings: &[Setting]) -> bool
 }
 
 /// Whether a name is of no port.
-fn lacks(ports: &[RawPort], targets: &Targets) -> bool
-    ensures { result ≡ lacks ports.now targets.now }
+fn lacks(known: &Names, targets: &Targets) -> bool
+    ensures { result ≡ lacks known.now targets.now }
 {
     match targets {
         Targets::All => false,
-        Targets::Named(names) => any_unknown(ports, names.as_slice()),
+        Targets::Named(names) => any_unknown(known, names.as_slice()),
     }
 }
 
 /// Whether a name is of no port.
-fn any_unknown(ports: &[RawPort], names: &[Name]) -> bool
-    ensures { result ≡ any_unknown ports.now names.now }
+fn any_unknown(known: &Names, names: &[Name]) -> bool
+    ensures { result ≡ any_unknown known.now names.now }
 {
-    names.iter().any(|name| !names_port(ports, name))
+    names.iter().any(|name| !known.has(name))
 }
 
-fn any_lacks(ports: &[RawPort], settings: &[Setting]) -> bool
-    ensures { result ≡ any_lacks ports.now settings.now }
+fn any_lacks(known: &Names, settings: &[Setting]) -> bool
+    ensures { result ≡ any_lacks known.now settings.now }
 {
-    settings.iter().any(|setting| lacks_target(ports, setting))
+    settings.iter().any(|setting| lacks_target(known, setting))
 }
 
-fn lacks_target(ports: &[RawPort], setting: &Setting) -> bool
-    ensures { result ≡ lacks_target ports.now setting.now }
+fn lacks_target(known: &Names, setting: &Setting) -> bool
+    ensures { result ≡ lacks_target known.now setting.now }
 {
     match setting {
-        Setting::Wrtrans { targets, .. } => lacks(ports, targets),
-        Setting::Wrprio(targets) => lacks(ports, targets),
+        Setting::Wrtrans { targets, .. } => lacks(known, targets),
+        Setting::Wrprio(targets) => lacks(known, targets),
         _ => false,
     }
 }
 
 /// Whether a port lacks what it needs.
 #[tactic(auto, unfolding(crate::specs::Judge::missing_in))]
-fn missing_in(all: &[RawPort], ports: &[RawPort], settings: &[List<Setting>]) -> bool
-    ensures { result ≡ missing_in all.now ports.now settings.now }
+fn missing_in(known: &Names, ports: &[RawPort], settings: &[List<Setting>]) -> bool
+    ensures { result ≡ missing_in known.now ports.now settings.now }
 {
     let mut behind = settings;
     let mut rest = ports;
@@ -275,7 +267,7 @@ fn missing_in(all: &[RawPort], ports: &[RawPort], settings: &[List<Setting>]) ->
         let [own, others @ ..] = behind else {
             return false;
         };
-        if lacks_clock(port.kind, own.as_slice()) || any_lacks(all, own.as_slice()) {
+        if lacks_clock(port.kind, own.as_slice()) || any_lacks(known, own.as_slice()) {
             return true;
         }
         behind = others;
@@ -296,12 +288,12 @@ fn has_widths(items: &[Item]) -> bool
     items.iter().any(|item| sets_widths(item))
 }
 
-pub fn is_missing(ports: &[RawPort], sketch: &Sketch) -> bool
-    ensures { result ≡ is_missing ports.now sketch.now }
+pub fn is_missing(known: &Names, ports: &[RawPort], sketch: &Sketch) -> bool
+    ensures { result ≡ is_missing known.now ports.now sketch.now }
 {
     !has_abits(sketch.items.as_slice())
         || !has_widths(sketch.items.as_slice())
-        || missing_in(ports, ports, sketch.ports.as_slice())
+        || missing_in(known, ports, sketch.ports.as_slice())
 }
 
 /// What the items of a variant say.
@@ -438,7 +430,8 @@ fn widths_known(widths: &[u32], setting: &Setting) -> bool
     }
 }
 
-fn is_width(widths: &[u32], width: u32) -> bool
+/// Whether the width is among the widths.
+pub fn is_width(widths: &[u32], width: u32) -> bool
     ensures { result ≡ is_width widths.now width }
 {
     widths.iter().any(|other| *other == width)

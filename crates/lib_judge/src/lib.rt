@@ -4,12 +4,13 @@
 
 mod faults;
 mod judge;
+mod names;
 mod raw;
 mod sketch;
 mod variants;
 
-pub use faults::{Judged, RamFault, ram_fault};
-pub use judge::{Sizes, sizes_of};
+pub use faults::{Judged, RamFault, all_options, ram_fault};
+pub use judge::{Sizes, is_width, sizes_of};
 pub use raw::{RawPort, RawRam, rams_of};
-pub use sketch::{Sketch, sketch_of};
-pub use variants::{capped_count, rows};
+pub use sketch::{Sketch, cut_row, sketch_of};
+pub use variants::{capped_count, has_name, rows};

@@ -110,7 +110,7 @@ fn settings_in(
 }
 
 /// The choices before a place and those behind it.
-fn cut_row(row: &[Choice], count: usize) -> (&[Choice], &[Choice])
+pub fn cut_row(row: &[Choice], count: usize) -> (&[Choice], &[Choice])
     ensures front { result.0.now ≡ take count row.now }
     ensures rest { result.1.now ≡ drop count row.now }
 {

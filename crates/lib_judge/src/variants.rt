@@ -1,8 +1,10 @@
 //! The choices of option values that make variants.
 ghost use Rattle.std.specs.Prelude.{◌≡◌, ◌≤◌, ◌++◌, ◌∷◌, [], IfOk, OnOk, length, map};
 ghost use Rattle.std.specs.Option.{option_copied};
-ghost use Rattle.lib_judge.specs.Variants.{axes, capped_count, extend, has_choice, has_name, mentions, names_from, option_in, rows_from, row_with, same_choice, same_value, values_from};
+ghost use Rattle.lib_judge.specs.Names.{place_of};
+ghost use Rattle.lib_judge.specs.Variants.{axes, capped_count, extend, first_name, has_choice, has_name, mentions, option_in, row_with, rows_from, same_choice, same_value, with_choice, with_value};
 
+use crate::names::Names;
 use lib_core::{Choice, Duplicate, List, Memory, Name, Value};
 use lib_tree::{Scope, Statement};
 use std::alloc::Global;
@@ -68,57 +70,56 @@ pub fn mentions(alloc: Global, scope: Scope, body: &[Statement]) -> Result<Vec<C
     Ok(choices)
 }
 
-/// The names of options, each at its first mention.
-#[tactic(auto, unfolding(crate::specs::Variants::names_from))]
-fn names_of(alloc: Global, choices: &[Choice]) -> Result<Vec<Name>, Memory>
-    ensures { IfOk result (λ names. names.items ≡ names_from [] choices.now) }
+/// Puts the choice among the values, if it is not there yet.
+fn add_value(alloc: Global, values: &mut List<Choice>, choice: &Choice) -> Result<(), Memory>
+    ensures { OnOk result (values.new ≡ with_value values.old choice.now) }
 {
-    let mut names: Vec<Name> = Vec::new(alloc);
-    let mut rest = choices;
-    while let [choice, tail @ ..] = rest {
-        if !has_name(names.as_slice(), &choice.name) {
-            names.push(choice.name.copy(alloc)?)?;
-        }
-        rest = tail;
+    if !has_choice(values.as_slice(), choice) {
+        values.push(choice.duplicate(alloc)?)?;
     }
-    Ok(names)
+    Ok(())
 }
 
-/// The values of an option, each at its first mention.
-#[tactic(auto, unfolding(crate::specs::Variants::values_from))]
-fn values_of(alloc: Global, name: &Name, choices: &[Choice]) -> Result<List<Choice>, Memory>
-    ensures { IfOk result (λ values. values ≡ values_from name.now [] choices.now) }
+/// The values of an option that is mentioned once.
+fn alone(alloc: Global, choice: &Choice) -> Result<List<Choice>, Memory>
+    ensures { IfOk result (λ values. values ≡ choice.now ∷ []) }
 {
-    let mut values: Vec<Choice> = Vec::new(alloc);
-    let mut rest = choices;
-    while let [choice, tail @ ..] = rest {
-        if choice.name.as_slice() == name.as_slice() && !has_choice(values.as_slice(), choice) {
-            values.push(choice.duplicate(alloc)?)?;
-        }
-        rest = tail;
+    let mut values = List::from_vec(Vec::new(alloc));
+    values.push(choice.duplicate(alloc)?)?;
+    Ok(values)
+}
+
+/// Puts the choice among the values of its option, which stands at the place, or behind all options.
+#[tactic(auto, using(crate::proofs::Grouped::put_there, crate::proofs::Grouped::put_new))]
+fn add_choice(
+    alloc: Global,
+    axes: &mut Vec<List<Choice>>,
+    place: usize,
+    choice: &Choice,
+) -> Result<(), Memory>
+    requires { place ≡ place_of (map first_name axes.old.items) choice.now.name }
+    ensures { OnOk result (axes.new.items ≡ with_choice axes.old.items choice.now) }
+{
+    if place < axes.len() {
+        add_value(alloc, &mut axes[place], choice)?;
+    } else {
+        axes.push(alone(alloc, choice)?)?;
     }
-    Ok(List::from_vec(values))
+    Ok(())
 }
 
 /// The values of each option.
+#[tactic(auto, unfolding(crate::specs::Variants::axes_from), using(crate::proofs::Grouped::names_put))]
 pub fn axes(alloc: Global, choices: &[Choice]) -> Result<Vec<List<Choice>>, Memory>
     ensures { IfOk result (λ found. found.items ≡ axes choices.now) }
 {
-    let names = names_of(alloc, choices)?;
-    values_of_each(alloc, names.as_slice(), choices)
-}
-
-fn values_of_each(
-    alloc: Global,
-    names: &[Name],
-    choices: &[Choice],
-) -> Result<Vec<List<Choice>>, Memory>
-    ensures { IfOk result (λ axes. axes.items ≡ map (λ name. values_from name [] choices.now) names.now) }
-{
-    let mut axes = Vec::new(alloc);
-    let mut rest = names;
-    while let [name, tail @ ..] = rest {
-        axes.push(values_of(alloc, name, choices)?)?;
+    let mut names = Names::new(alloc);
+    let mut axes: Vec<List<Choice>> = Vec::new(alloc);
+    let mut rest = choices;
+    while let [choice, tail @ ..] = rest {
+        let (next, place) = names.with_place(alloc, &choice.name)?;
+        add_choice(alloc, &mut axes, place, choice)?;
+        names = next;
         rest = tail;
     }
     Ok(axes)
@@ -166,6 +167,37 @@ fn extend(
     Ok(longer)
 }
 
+/// Each row with the choice behind it.
+fn each_with(
+    alloc: Global,
+    rows: Vec<List<Choice>>,
+    choice: &Choice,
+) -> Result<Vec<List<Choice>>, Memory>
+    ensures { IfOk result (λ longer. longer.items ≡ map (λ row. row ++ choice.now ∷ []) rows.items) }
+{
+    let mut longer = Vec::new(alloc);
+    for row in rows {
+        let mut row = row;
+        row.push(choice.duplicate(alloc)?)?;
+        longer.push(row)?;
+    }
+    Ok(longer)
+}
+
+/// Each row with each choice of the axis behind it. Where there is one choice, no row is copied.
+fn extended(
+    alloc: Global,
+    rows: Vec<List<Choice>>,
+    axis: &[Choice],
+) -> Result<Vec<List<Choice>>, Memory>
+    ensures { IfOk result (λ longer. longer.items ≡ extend rows.items axis.now) }
+{
+    match axis {
+        [only] => each_with(alloc, rows, only),
+        _ => extend(alloc, rows.as_slice(), axis),
+    }
+}
+
 /// One choice of each axis, in all ways. The last axis varies fastest.
 #[tactic(auto, unfolding(crate::specs::Variants::rows_from))]
 pub fn rows(alloc: Global, axes: &[List<Choice>]) -> Result<Vec<List<Choice>>, Memory>
@@ -175,7 +207,7 @@ pub fn rows(alloc: Global, axes: &[List<Choice>]) -> Result<Vec<List<Choice>>, M
     rows.push(List::from_vec(Vec::new(alloc)))?;
     let mut rest = axes;
     while let [axis, tail @ ..] = rest {
-        rows = extend(alloc, rows.as_slice(), axis.as_slice())?;
+        rows = extended(alloc, rows, axis.as_slice())?;
         rest = tail;
     }
     Ok(rows)

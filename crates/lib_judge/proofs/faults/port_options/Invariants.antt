@@ -1,6 +1,5 @@
-use Rattle.std.proofs.Common.{◌≡◌, ◌++◌, ◌≤◌, ◌+◌, length}
+use Rattle.std.proofs.Common.{◌≡◌, ◌++◌, length}
 use Rattle.std.specs.List.{flat_map}
-use Rattle.lib_judge.specs.Faults.{judges_of, last_from, names_of_all, names_repeat}
 use Rattle.lib_judge.proofs.faults.port_options.Given as goal
 
 abbrev pub invariant-loop-rest : goal.invariant-loop-rest

@@ -1,5 +1,5 @@
-use Rattle.std.proofs.Common.{◌≡◌, ◌++◌, ◌≤◌, ◌+◌, length}
-use Rattle.lib_judge.specs.Judge.{items_repeat, missing_in, plain_sizes, rises_from, settings_repeat, sizes_from}
+use Rattle.std.proofs.Common.{◌≡◌, length}
+use Rattle.lib_judge.specs.Judge.{plain_sizes, sizes_from}
 use Rattle.lib_judge.proofs.judge.sizes_of.Given as goal
 
 abbrev pub invariant-loop-rest : goal.invariant-loop-rest

@@ -1,5 +1,5 @@
 use Rattle.std.proofs.Common.{◌≡◌, ◌++◌, ◌≤◌, ◌+◌, length}
-use Rattle.lib_judge.specs.Sketch.{items_from, settings_from, settings_of}
+use Rattle.lib_judge.specs.Sketch.{settings_from}
 use Rattle.lib_judge.proofs.sketch.settings_in.Given as goal
 
 abbrev pub invariant-loop-rest : goal.invariant-loop-rest

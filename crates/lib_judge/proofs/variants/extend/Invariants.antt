@@ -1,6 +1,6 @@
-use Rattle.std.proofs.Common.{◌≡◌, ◌++◌, ◌≤◌, length, map, [], ◌∷◌}
+use Rattle.std.proofs.Common.{◌≡◌, ◌++◌, length}
 use Rattle.std.specs.List.{flat_map}
-use Rattle.lib_judge.specs.Variants.{capped_count, extend, mentions, names_from, row_with, rows_from, values_from}
+use Rattle.lib_judge.specs.Variants.{row_with}
 use Rattle.lib_judge.proofs.variants.extend.Given as goal
 
 abbrev pub invariant-loop-rest : goal.invariant-loop-rest

@@ -1,0 +1,5 @@
+pub mod Expansion
+pub mod Groups
+pub mod Limits
+pub mod Reading
+pub mod Reads
