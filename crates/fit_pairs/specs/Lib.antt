@@ -1,0 +1,5 @@
+pub mod Clocks
+pub mod Items
+pub mod Pairs
+pub mod Placed
+pub mod Priorities

@@ -1,0 +1,9 @@
+pub mod Bounds
+pub mod Chosen
+pub mod Copies
+pub mod Judged
+pub mod Lengths
+pub mod Listed
+pub mod Powers
+pub mod Valid
+pub mod Within

@@ -1,0 +1,8 @@
+pub mod Bits
+pub mod Judging
+pub mod Limits
+pub mod Standing
+pub mod Shape
+pub mod Rules
+pub mod Candidates
+pub mod Fits

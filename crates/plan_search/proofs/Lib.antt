@@ -1,0 +1,9 @@
+pub mod Walked
+pub mod Choices
+pub mod Bounds
+pub mod Rising
+pub mod Cuts
+pub mod Fewest
+pub mod Capped
+pub mod Listed
+pub mod Closed
