@@ -77,7 +77,7 @@ fn push_pins(nets: &mut Vec<u32>, pins: &[Pin]) -> Result<(), Memory>
 }
 
 /// Puts the nets among these bits at the end.
-pub(crate) fn push_nets(nets: &mut Vec<u32>, bits: &[Bit]) -> Result<(), Memory>
+pub fn push_nets(nets: &mut Vec<u32>, bits: &[Bit]) -> Result<(), Memory>
     ensures { OnOk result (nets.new.items ≡ nets.old.items ++ nets_of bits.now) }
 {
     for bit in bits {

@@ -1,0 +1,4 @@
+pub mod LowBits
+pub mod Joined
+pub mod ReadBack
+pub mod Fitting

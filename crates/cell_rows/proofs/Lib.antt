@@ -1,0 +1,5 @@
+pub mod Naming
+pub mod Driven
+pub mod Signs
+pub mod Placing
+pub mod ReadsBack

@@ -1,0 +1,4 @@
+pub mod Spans
+pub mod Pieces
+pub mod Unpacked
+pub mod Answers

@@ -1,0 +1,2 @@
+pub mod PortSizes
+pub mod Within

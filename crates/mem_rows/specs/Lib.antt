@@ -1,0 +1,5 @@
+pub mod Groups
+pub mod Rows
+pub mod Limits
+pub mod Pins
+pub mod ByType

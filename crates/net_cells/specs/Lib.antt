@@ -1,0 +1,6 @@
+pub mod Bits
+pub mod Wires
+pub mod Starts
+pub mod Cells
+pub mod Clocks
+pub mod Parts

@@ -1,0 +1,10 @@
+pub mod Faults
+pub mod Sizes
+pub mod Rows
+pub mod FilePins
+pub mod OpenPins
+pub mod Counts
+pub mod Faces
+pub mod Cells
+pub mod Gather
+pub mod Laws

@@ -1,0 +1,26 @@
+//! One module of a document: its cells with their rows, their pins by places, its connected bits, and what it breaks first.
+#![tactic(auto)]
+
+mod around;
+mod bits;
+mod cell;
+mod clocks;
+mod counts;
+mod faces;
+mod fault;
+mod file_pin;
+mod gathering;
+pub mod laws;
+mod limits;
+mod open_pin;
+mod ram;
+mod raw;
+mod row;
+mod sizes;
+#[cfg(test)]
+mod tests;
+
+pub use faces::Faces;
+pub use fault::{Fault, Halt};
+pub use gathering::{Gathered, gather};
+pub use raw::{CellShape, Kept, RamUse, RawCell, RawPin};

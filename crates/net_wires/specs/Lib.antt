@@ -1,0 +1,16 @@
+pub mod Clocks
+pub mod Connects
+pub mod Counting
+pub mod Doubling
+pub mod Drivers
+pub mod Finds
+pub mod Links
+pub mod Nets
+pub mod Numbers
+pub mod Parts
+pub mod Pieces
+pub mod Settled
+pub mod Signals
+pub mod Spans
+pub mod Ties
+pub mod Ways

@@ -1,0 +1,4 @@
+pub mod RamNames
+pub mod Options
+pub mod RamRows
+pub mod RamPins

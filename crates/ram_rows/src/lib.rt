@@ -1,0 +1,15 @@
+//! What the parameters of a RAM cell say, and which pins it has, by a library.
+#![tactic(auto)]
+
+mod names;
+pub mod options;
+pub mod pins;
+pub mod row;
+pub mod slots;
+#[cfg(test)]
+mod tests;
+
+pub use options::{Chosen, chosen_by};
+pub use pins::{SlotPin, knows_param, knows_pin, pin_width, slot_pins};
+pub use row::{RamRow, has_strange_level, row_at};
+pub use slots::{Level, SlotRow, Values};
