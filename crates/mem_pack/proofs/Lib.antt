@@ -1,0 +1,15 @@
+pub mod Powers
+pub mod Small
+pub mod Steps
+pub mod Pieces
+pub mod Ports
+pub mod Masks
+pub mod Addresses
+pub mod Views
+pub mod ReadBack
+pub mod WriteBack
+pub mod Whole
+pub mod Row
+pub mod Within
+pub mod Back
+pub mod Widths

@@ -1,0 +1,14 @@
+//! From a memory to the one cell that holds it with all its ports.
+#![tactic(auto)]
+
+mod cell;
+pub mod laws;
+mod numbers;
+mod params;
+mod pins;
+mod reads;
+#[cfg(test)]
+mod tests;
+mod writes;
+
+pub use cell::pack;

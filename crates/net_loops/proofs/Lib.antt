@@ -1,0 +1,5 @@
+pub mod Circles
+pub mod Levelling
+pub mod Linking
+pub mod Turning
+pub mod Walking

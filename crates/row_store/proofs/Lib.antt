@@ -1,0 +1,3 @@
+mod Lanes
+pub mod Tables
+mod BitLists

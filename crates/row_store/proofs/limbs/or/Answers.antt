@@ -1,0 +1,13 @@
+use Rattle.std.proofs.Common.{arith, refl, get_or, bit_or, ◌∙◌}
+use Rattle.std.proofs.lemmas.List.{length-set}
+use Rattle.row_store.proofs.Lanes.{over_or, limbs_more}
+use Rattle.row_store.proofs.limbs.or.Goals as goal
+
+pub loop-at-preserved : goal.loop-at-preserved
+loop-at-preserved g c = (
+  length-set c.loop-at.out c.loop-at.at _ ∙ c.loop-at.invariant.0,
+  limbs_more (λ j. bit_or (get_or c.args.a.now j 0) (get_or c.args.b.now j 0)) c.loop-at.out c.loop-at.at _ (omega (arith, c.loop-at.invariant.0)) refl c.loop-at.invariant.1,
+)
+
+pub returns : goal.returns
+returns g c = over_or g.row.LIMBS c.args.a.now c.args.b.now c.loop-at.out c.told-a c.told-b c.loop-at.invariant.0 (λ j h. c.loop-at.invariant.1 j (omega arith))

@@ -1,0 +1,3 @@
+pub mod Limbs
+pub mod Rows
+pub mod Bits
