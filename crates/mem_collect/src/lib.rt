@@ -11,7 +11,8 @@ mod tests;
 mod writing;
 
 pub use fault::{CollectCode, CollectFault};
-pub use mem::unpack;
+pub use mem::{read_ports, unpack};
+pub use pieces::{address, pin_bits};
 pub use reading::Reading;
-pub use spans::PortSpan;
+pub use spans::{PortSpan, wide_of};
 pub use writing::Writing;

@@ -20,7 +20,8 @@ struct Held {
     writes: List<WrPort>,
 }
 
-fn read_ports(alloc: Global, row: &WholeRow, part: &MemPart) -> Result<List<RdPort>, Memory>
+/// The read ports of a cell of this row.
+pub fn read_ports(alloc: Global, row: &WholeRow, part: &MemPart) -> Result<List<RdPort>, Memory>
     requires { IsWithin row.now }
     ensures { IfOk result (λ reads. reads ≡ unpacked.reads_of row.now part.now) }
 {

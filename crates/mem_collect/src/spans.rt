@@ -14,8 +14,8 @@ pub struct PortSpan {
     pub wide: u32,
 }
 
-/// How often 1 is doubled to give so many words.
-fn wide_of(words: u32) -> u32
+/// How often 1 is doubled to give so many words; 0 where they are no power of two up to 64.
+pub fn wide_of(words: u32) -> u32
     ensures { result ≡ table.wide_of words }
 {
     match words {

@@ -1,7 +1,6 @@
 -- What attributes say, one before the other.
-use Rattle.std.proofs.Common.{◌≡◌, ℕ, suc, ◌+◌, ◌<◌, List, [], ◌∷◌, length, drop, replicate, get_or, refl, ap, ◌∙◌, arith}
+use Rattle.std.proofs.Common.{◌≡◌, ℕ, ◌+◌, ◌<◌, List, ◌∷◌, length, drop, replicate, get_or, refl, ap, ◌∙◌, arith}
 use Rattle.std.proofs.lemmas.List.{at_drop_more, drop_all}
-use Rattle.lib_core.specs.declared.library.Tri.{Tri}
 use Rattle.lib_core.specs.declared.library.Tri.TheVariants.{Any}
 use Rattle.net_core.specs.declared.mems.Attr.{Attr}
 use Rattle.net_cells.specs.Wires.{inits_of, with_attr}

@@ -13,12 +13,12 @@ use Rattle.cell_consts.specs.Consts.{fitted}
 use Rattle.cell_rows.specs.declared.comb.CombRow.{CombRow}
 use Rattle.cell_rows.specs.declared.reg.RegRow.{RegRow}
 use Rattle.net_wires.specs.declared.clock.ClockRoot.{ClockRoot}
-use Rattle.net_gather.specs.declared.raw.Kept.{Kept}
-use Rattle.net_gather.specs.declared.raw.RawPin.{RawPin}
+use Rattle.raw_cells.specs.declared.raw.Kept.{Kept}
+use Rattle.raw_cells.specs.declared.raw.RawPin.{RawPin}
 use Rattle.net_cells.specs.declared.cells.Data.{Data}
 use Rattle.net_cells.specs.declared.cells.Values.{Values}
-use Rattle.net_cells.specs.Bits.{bit_at, bits_at, bits_of}
-use Rattle.net_cells.specs.Clocks.{clock_at}
+use Rattle.raw_cells.specs.Bits.{bit_at, bits_at, bits_of}
+use Rattle.raw_cells.specs.Clocks.{clock_at}
 
 unfoldable pub comb_of : List Bit → List ℕ → CombRow → List RawPin → Comb
 comb_of places name row pins = record {

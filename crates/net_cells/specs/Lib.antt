@@ -1,4 +1,3 @@
-pub mod Bits
 pub mod Wires
 pub mod Starts
 pub mod Cells

@@ -13,9 +13,9 @@ use Rattle.mem_rows.specs.declared.row.MemRow.{MemRow}
 use Rattle.mem_rows.specs.declared.row.MemRow.TheVariants as row
 use Rattle.net_wires.specs.declared.clock.ClockRoot.{ClockRoot}
 use Rattle.net_wires.specs.declared.source.Source.{Source}
-use Rattle.net_gather.specs.declared.raw.Kept.{Kept}
-use Rattle.net_gather.specs.declared.raw.RawPin.{RawPin}
-use Rattle.net_cells.specs.Bits.{bits_of, sources_at}
+use Rattle.raw_cells.specs.declared.raw.Kept.{Kept}
+use Rattle.raw_cells.specs.declared.raw.RawPin.{RawPin}
+use Rattle.raw_cells.specs.Bits.{bits_of, sources_at}
 use Rattle.net_cells.specs.Clocks.{clock_bit, flips}
 
 abbrev pub tri_of_edge : Bool → Tri

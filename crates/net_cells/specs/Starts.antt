@@ -1,5 +1,5 @@
 -- The table of start values, filled wire by wire. That it is the one of the definition is proved.
-use Rattle.std.specs.Prelude.{ℕ, List, [], ◌∷◌, length, get_or, slice_set}
+use Rattle.std.specs.Prelude.{List, [], ◌∷◌, length, get_or, slice_set}
 use Rattle.lib_core.specs.declared.library.Tri.{Tri}
 use Rattle.lib_core.specs.declared.library.Tri.TheVariants.{Any}
 use Rattle.net_core.specs.declared.bits.Bit.{Bit}

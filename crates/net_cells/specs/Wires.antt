@@ -1,6 +1,6 @@
 -- The wires and the declared memories of a module, and the values at the start that the attribute `\init` of wires gives to
 -- nets. (Yosys manual, text representation of RTLIL, and its attributes.)
-use Rattle.std.specs.Prelude.{◌≡◌, ℕ, ◌<◌, Bool, List, [], ◌∷◌, length, map, take, drop, replicate, Some, slice_get, codes, nat_eq, if◌then◌else◌}
+use Rattle.std.specs.Prelude.{◌≡◌, ℕ, ◌<◌, Bool, List, [], ◌∷◌, length, take, drop, replicate, Some, slice_get, codes, nat_eq, if◌then◌else◌}
 use Rattle.std.specs.List.{flat_map}
 use Rattle.std.specs.Str.{bytes_eq}
 use Rattle.lib_core.specs.declared.library.Tri.{Tri}

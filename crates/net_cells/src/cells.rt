@@ -2,15 +2,14 @@
 ghost use Rattle.std.specs.Prelude.{◌≡◌, IfOk};
 ghost use Rattle.net_cells.specs.Cells as spec;
 
-use crate::bits::{bit_at, bits_at, nets_at};
-use crate::clocks::clock_at;
 use cell_consts::fitted;
 use cell_rows::reg::{has_arst, has_srst};
 use cell_rows::{CombRow, RegRow};
 use lib_core::{Duplicate, List, Memory, Name, Tri};
 use net_core::{Bit, Carried, Comb, Pin, Reg};
-use net_gather::{Kept, RawPin};
 use net_wires::{ClockRoot, bits_of};
+use raw_cells::bits::{bit_at, bits_at, nets_at};
+use raw_cells::{Kept, RawPin, clock_at};
 use std::alloc::Global;
 
 #[tactic(auto, unfolding(crate::specs::Cells::comb_of))]

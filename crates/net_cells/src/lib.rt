@@ -1,7 +1,6 @@
 //! Wires, logic cells, registers, cells that are kept as they are, and parts of memories, once each place of a module has its bit.
 #![tactic(auto)]
 
-mod bits;
 mod cells;
 mod clocks;
 mod parts;
@@ -11,7 +10,6 @@ mod tests;
 mod wires;
 
 pub use cells::{carried_of, comb_of, reg_of};
-pub use clocks::clock_at;
 pub use parts::part_of;
 pub use starts::starts_of;
 pub use wires::{declared, wires_from};

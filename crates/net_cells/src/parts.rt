@@ -2,14 +2,14 @@
 ghost use Rattle.std.specs.Prelude.{◌≡◌, ◌++◌, map, IfOk, OnOk};
 ghost use Rattle.net_cells.specs.Parts as spec;
 
-use crate::bits::sources_at;
 use crate::clocks::{clock_bit, flips};
 use cell_consts::{attr_bits, bits_attr, flag_attr, flags};
 use lib_core::{Duplicate, List, Memory, Name, Tri};
 use mem_rows::MemRow;
 use net_core::{Attr, Bit, MemPart, Pin};
-use net_gather::{Kept, RawPin};
 use net_wires::{ClockRoot, Source, bits_of};
+use raw_cells::bits::sources_at;
+use raw_cells::{Kept, RawPin};
 use std::alloc::Global;
 
 fn tri_of(bit: bool) -> Tri

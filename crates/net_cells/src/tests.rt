@@ -3,8 +3,8 @@ use cell_consts::flag_attr;
 use cell_rows::CombRow;
 use lib_core::{List, Memory, Name, Tri};
 use net_core::{Attr, Bit, CombKind, Wire};
-use net_gather::RawPin;
 use net_wires::Source;
+use raw_cells::RawPin;
 use std::alloc::Global;
 use std::test::Fail;
 

@@ -1,6 +1,6 @@
 -- Numbers below another one, from the top down.
 use Rattle.std.proofs.Common.{◌≡◌, ℕ, zero, suc, ◌-◌, ◌<◌, ◌≤◌, Bool, false, ◌||◌, refl, arith}
-use Rattle.net_gather.specs.Rows.{any_below}
+use Rattle.net_gather.specs.PortClocks.{any_below}
 
 pub below_turn : (has : ℕ → Bool) (n : ℕ) → 0 < n → any_below has n ≡ (has (n - 1) || any_below has (n - 1))
 below_turn has zero h = absurd (omega arith)

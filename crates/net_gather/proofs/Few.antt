@@ -14,13 +14,13 @@ use Rattle.net_wires.specs.Parts.{signal_bits}
 use Rattle.net_wires.specs.Spans.{Entry, There, wire_bits}
 use Rattle.net_wires.proofs.Reach.{pair_in, signal_in}
 use Rattle.net_gather.specs.declared.counts.Counts.{Counts}
-use Rattle.net_gather.specs.declared.row.Found.{Found}
-use Rattle.net_gather.specs.declared.row.Found.TheVariants as found_as
+use Rattle.raw_cells.specs.declared.row.Found.{Found}
+use Rattle.raw_cells.specs.declared.row.Found.TheVariants as found_as
 use Rattle.net_gather.specs.Cells.{Context, found_faults, found_gain, kind_in, row_faults, row_gain, row_pins}
 use Rattle.net_gather.specs.Faults.{at, limit_breach, limit_breaches}
 use Rattle.net_gather.specs.Gather.{cell_faults, counted, counts_before, counts_of, faults_of, gathered, item_breaches, item_gain, pairs_of}
 use Rattle.net_gather.specs.OpenPins.{open_count}
-use Rattle.net_gather.specs.Rows.{found_row}
+use Rattle.raw_cells.specs.Rows.{found_row}
 use Rattle.net_gather.specs.Sizes.{size_breaches, size_faults}
 use Rattle.net_gather.proofs.Fitting.{at_none, front_none, rest_none}
 
@@ -73,7 +73,7 @@ places_few x is e =
 
 -- ---- connects
 
-both : (n : ℕ) (ps qs : List Pair) → PairsWithin n ps → PairsWithin n qs → PairsWithin n (ps ++ qs)
+pub both : (n : ℕ) (ps qs : List Pair) → PairsWithin n ps → PairsWithin n qs → PairsWithin n (ps ++ qs)
 both n [] qs a b = b
 both n (p ∷ ps) qs a b = (a.0, (a.1.0, both n ps qs a.1.1 b))
 

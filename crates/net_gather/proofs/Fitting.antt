@@ -36,19 +36,19 @@ use Rattle.net_wires.specs.Settled.{settled}
 use Rattle.net_wires.specs.Spans.{Entry}
 use Rattle.net_gather.specs.declared.counts.Counts.{Counts}
 use Rattle.net_gather.specs.declared.file_pin.FilePin.{FilePin}
-use Rattle.net_gather.specs.declared.raw.CellShape.TheVariants as shape
-use Rattle.net_gather.specs.declared.raw.RawCell.{RawCell}
-use Rattle.net_gather.specs.declared.row.CellRow.{CellRow}
-use Rattle.net_gather.specs.declared.row.CellRow.TheVariants as row
-use Rattle.net_gather.specs.declared.row.Found.{Found}
-use Rattle.net_gather.specs.declared.row.Found.TheVariants as found_as
+use Rattle.raw_cells.specs.declared.raw.CellShape.TheVariants as shape
+use Rattle.raw_cells.specs.declared.raw.RawCell.{RawCell}
+use Rattle.raw_cells.specs.declared.row.CellRow.{CellRow}
+use Rattle.raw_cells.specs.declared.row.CellRow.TheVariants as row
+use Rattle.raw_cells.specs.declared.row.Found.{Found}
+use Rattle.raw_cells.specs.declared.row.Found.TheVariants as found_as
 use Rattle.net_gather.specs.Cells.{Context, found_faults, found_gain, kind_in, pin_faults, row_faults, row_gain, row_pins, shape_of}
 use Rattle.net_gather.specs.Faults.{at}
 use Rattle.net_gather.specs.FilePins.{file_breaches, file_pins, in_table, pin_breaches, row_breaches}
 use Rattle.net_gather.specs.Gather.{cell_faults, counted, gained, item_breaches, item_gain, raw_cells}
 use Rattle.net_gather.specs.Laws.{CellsFit, FitsShape, FitsTable, IsFoundIn, ram_table, row_of_pin}
 use Rattle.net_gather.specs.OpenPins.{bits_of, bits_open, found_bits, in_file, kept_pins, raw_pins, table_pins}
-use Rattle.net_gather.specs.Rows.{found_row, table_of}
+use Rattle.raw_cells.specs.Rows.{found_row, table_of}
 
 -- ---- nothing in front, nothing behind
 
@@ -76,7 +76,7 @@ length_settled n (source.Loose ∷ ss) = ap (λ k. suc k) (length_settled (n + 1
 pub many : (k : ℕ) → length (replicate k source.Loose) ≡ k
 many k = length-replicate k source.Loose
 
-test_holds : (t : Bool) (b : Breach) → cond t [] (b ∷ []) ≡ [] → t ≡ true
+pub test_holds : (t : Bool) (b : Breach) → cond t [] (b ∷ []) ≡ [] → t ≡ true
 test_holds true b e = refl
 test_holds false b e = absurd cc
 

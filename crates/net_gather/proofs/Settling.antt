@@ -11,14 +11,14 @@ use Rattle.net_wires.specs.declared.source.Source.TheVariants as source
 use Rattle.net_wires.specs.Settled.{settled}
 use Rattle.net_gather.specs.declared.counts.Counts.{Counts}
 use Rattle.net_gather.specs.declared.open_pin.OpenPin.{OpenPin}
-use Rattle.net_gather.specs.declared.raw.RawCell.{RawCell}
-use Rattle.net_gather.specs.declared.row.Found.{Found}
-use Rattle.net_gather.specs.declared.row.Found.TheVariants as found_as
+use Rattle.raw_cells.specs.declared.raw.RawCell.{RawCell}
+use Rattle.raw_cells.specs.declared.row.Found.{Found}
+use Rattle.raw_cells.specs.declared.row.Found.TheVariants as found_as
 use Rattle.net_gather.specs.Cells.{Context, found_gain, kind_in, row_gain}
 use Rattle.net_gather.specs.Gather.{counted, gained, item_gain, raw_cells}
 use Rattle.net_gather.specs.Laws.{AreSettled, CellsSettled, PinsSettled}
 use Rattle.net_gather.specs.OpenPins.{bits_of, bits_open, raw_pins}
-use Rattle.net_gather.specs.Rows.{found_row}
+use Rattle.raw_cells.specs.Rows.{found_row}
 
 bits_settled : (n : ℕ) (ss : List Source) → AreSettled (settled n ss)
 bits_settled n [] = tt

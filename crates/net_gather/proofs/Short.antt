@@ -20,12 +20,12 @@ use Rattle.net_gather.specs.declared.counts.Counts.{Counts}
 use Rattle.net_gather.specs.declared.open_pin.OpenPin.{OpenPin}
 use Rattle.net_gather.specs.declared.open_pin.PinBits.{PinBits}
 use Rattle.net_gather.specs.declared.open_pin.PinBits.TheVariants.{Given, LeftOut}
-use Rattle.net_gather.specs.declared.raw.RawCell.{RawCell}
-use Rattle.net_gather.specs.declared.raw.RawPin.{RawPin}
-use Rattle.net_gather.specs.declared.row.CellRow.{CellRow}
-use Rattle.net_gather.specs.declared.row.CellRow.TheVariants as row
-use Rattle.net_gather.specs.declared.row.Found.{Found}
-use Rattle.net_gather.specs.declared.row.Found.TheVariants as found_as
+use Rattle.raw_cells.specs.declared.raw.RawCell.{RawCell}
+use Rattle.raw_cells.specs.declared.raw.RawPin.{RawPin}
+use Rattle.raw_cells.specs.declared.row.CellRow.{CellRow}
+use Rattle.raw_cells.specs.declared.row.CellRow.TheVariants as row
+use Rattle.raw_cells.specs.declared.row.Found.{Found}
+use Rattle.raw_cells.specs.declared.row.Found.TheVariants as found_as
 use Rattle.net_gather.specs.Cells.{Context, found_faults, found_gain, kind_in, pin_faults, row_faults, row_gain, row_pins}
 use Rattle.net_gather.specs.Counts.{count_breaches, has_long_address, pin_size, pins_size, row_limits}
 use Rattle.net_gather.specs.Faults.{at, limit_breaches}
@@ -33,7 +33,7 @@ use Rattle.net_gather.specs.FilePins.{file_breaches, file_pins}
 use Rattle.net_gather.specs.Gather.{cell_faults, counted, gained, item_breaches, item_gain, raw_cells}
 use Rattle.net_gather.specs.Laws.{IsFoundIn}
 use Rattle.net_gather.specs.OpenPins.{bits_of, bits_open, bits_size, found_bits, in_file, open_count, raw_pins, table_pins}
-use Rattle.net_gather.specs.Rows.{found_row, table_of}
+use Rattle.raw_cells.specs.Rows.{found_row, table_of}
 use Rattle.net_gather.proofs.Few.{limit_kept}
 use Rattle.net_gather.proofs.Fitting.{at_none, found_width, front_none, length_settled, many, mem_found, rest_none}
 

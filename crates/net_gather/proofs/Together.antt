@@ -1,5 +1,5 @@
 -- Cells and connects together.
-use Rattle.std.proofs.Common.{◌≡◌, ℕ, List, [], ◌++◌, Option, Result, Ok, Err, sym, ap, subst, ◌∙◌}
+use Rattle.std.proofs.Common.{◌≡◌, ℕ, List, [], ◌++◌, Option, Some, Result, Ok, Err, sym, ap, subst, ◌∙◌}
 use Rattle.std.specs.List.{flat_map}
 use Rattle.std.specs.Result.{IsErrAnd}
 use Rattle.lib_core.specs.declared.library.Library.{Library}
@@ -14,17 +14,24 @@ use Rattle.net_gather.specs.declared.fault.Fault.{Fault}
 use Rattle.net_gather.specs.declared.fault.Halt.{Halt}
 use Rattle.net_gather.specs.declared.fault.Halt.TheVariants as halt
 use Rattle.net_gather.specs.declared.gathering.Gathered.{Gathered}
-use Rattle.net_gather.specs.declared.raw.RawCell.{RawCell}
+use Rattle.raw_cells.specs.declared.raw.RawCell.{RawCell}
+use Rattle.raw_cells.specs.declared.tied.Tied.{Tied}
+use Rattle.raw_cells.specs.Tied.{tied_of}
 use Rattle.net_gather.specs.Cells.{Context}
 use Rattle.net_gather.specs.Faces.{faces_drive}
 use Rattle.net_gather.specs.Faults.{FindsFirst, Halts}
 use Rattle.net_gather.specs.Gather.{cell_faults, connect_faults, context, counts_before, counts_of, faults_of, gathered, pairs_of, raw_cells}
 use Rattle.net_gather.specs.Sizes.{size_faults}
+use Rattle.net_gather.specs.Ties.{first_of, ties_of}
+use Rattle.net_gather.proofs.Tying.{first_some, ties_same}
 
 -- what the code knows around a cell is what the items say
-pub context_is : (lib : Library) (names : List Entry) (mem : List (List ℕ × ℕ)) (ram : List ℕ → Option ℕ) (f : Faces) (is : List Item) → names ≡ spans 0 is → ((n : List ℕ) → found mem n ≡ place_of (flat_map memory_name is) n)
-    → ◌≡◌ {A = Context} (record { library = lib; names = names; memory = λ n. found mem n; ram = ram; instance = λ n. found f.modules n; drives = λ k p. faces_drive f k p }) (context lib ram f is)
-context_is lib names mem ram f is e h = λ i. record { library = lib; names = e i; memory = λ n. h n i; ram = ram; instance = λ n. found f.modules n; drives = λ k p. faces_drive f k p }
+pub context_is : (lib : Library) (names : List Entry) (mem : List (List ℕ × ℕ)) (ram : List ℕ → Option ℕ) (f : Faces) (t : Tied) (n : ℕ) (ps : List Pair) (is : List Item) → names ≡ spans 0 is
+    → ((n : List ℕ) → found mem n ≡ place_of (flat_map memory_name is) n) → t ≡ tied_of n ps → n ≡ wire_bits is → ps ≡ ties_of (spans 0 is) is
+    → ◌≡◌ {A = Context} (record { library = lib; names = names; memory = λ n. found mem n; ram = ram; instance = λ n. found f.modules n; drives = λ k p. faces_drive f k p; tied = t }) (context lib ram f is)
+context_is lib names mem ram f t n ps is e h a b d =
+    let told : t ≡ tied_of (wire_bits is) (ties_of (spans 0 is) is) = a ∙ (λ i. tied_of (b i) (d i)) in
+    λ i. record { library = lib; names = e i; memory = λ n. h n i; ram = ram; instance = λ n. found f.modules n; drives = λ k p. faces_drive f k p; tied = told i }
 
 -- the halt of a call is handed on
 finds_err : {X : Type 0} (r : Result X Halt) (e : Halt) (fs : List Fault) (P : X → Type 0) → IsErrAnd r (λ x. x ≡ e) → Halts e fs → FindsFirst r fs P
@@ -49,18 +56,19 @@ pub err_cells : {X : Type 0} (r : Result X Halt) (e : Halt) (x y : Context) (nam
     → IsErrAnd r (λ h. h ≡ e) → Halts e (cell_faults x 0 st is) → FindsFirst r (faults_of y is) P
 err_cells r e x y names st is P p n q z err h = finds_err r e (faults_of y is) P err (subst (Halts e) (sym (faults_are x y names st is p n q z)) (halts_front e (cell_faults x 0 st is) (connect_faults names 0 is) h))
 
-pub err_pairs : {X : Type 0} (r : Result X Halt) (e : Halt) (x y : Context) (names : List Entry) (st : Counts) (is : List Item) (P : X → Type 0) → x ≡ y → names ≡ y.names → st ≡ counts_before is → size_faults 0 0 is ≡ []
-    → cell_faults x 0 st is ≡ [] → IsErrAnd r (λ h. h ≡ e) → Halts e (connect_faults names 0 is) → FindsFirst r (faults_of y is) P
-err_pairs r e x y names st is P p n q z c err h =
-    finds_err r e (faults_of y is) P err (subst (Halts e) (sym (faults_are x y names st is p n q z ∙ ap (λ (fs : List Fault). fs ++ connect_faults names 0 is) c)) h)
+pub first_halts : (o : Option Fault) (f : Fault) (x y : Context) (names : List Entry) (st : Counts) (is : List Item) → x ≡ y → names ≡ y.names → st ≡ counts_before is → size_faults 0 0 is ≡ []
+    → cell_faults x 0 st is ≡ [] → o ≡ first_of (connect_faults names 0 is) → o ≡ Some f → Halts (halt.Broken f) (faults_of y is)
+first_halts o f x y names st is p n q z c first e =
+    let s = first_some (connect_faults names 0 is) f (sym first ∙ e) in
+    (s.0, faults_are x y names st is p n q z ∙ ap (λ (fs : List Fault). fs ++ connect_faults names 0 is) c ∙ s.1)
 
 pub all_found : (x y : Context) (names : List Entry) (st : Counts) (is : List Item) (n m : ℕ) (cells : List RawCell) (pairs : List Pair) → x ≡ y → names ≡ y.names → st ≡ counts_before is → size_faults 0 0 is ≡ []
-    → cell_faults x 0 st is ≡ [] → connect_faults names 0 is ≡ [] → n ≡ wire_bits is → m ≡ (counts_of x st is).places → cells ≡ raw_cells x st is → pairs ≡ pairs_of names is
+    → cell_faults x 0 st is ≡ [] → connect_faults names 0 is ≡ [] → n ≡ wire_bits is → m ≡ (counts_of x st is).places → cells ≡ raw_cells x st is → pairs ≡ ties_of names is
     → (faults_of y is ≡ []) × ◌≡◌ {A = Gathered} (record { wire_places = n; places = m; cells = cells; pairs = pairs }) (gathered y is)
 all_found x y names st is n m cells pairs p e q z c d wn wm wc wp = (
   faults_are x y names st is p e q z ∙ ap (λ (fs : List Fault). fs ++ connect_faults names 0 is) c ∙ d,
   let places : m ≡ (counts_of y (counts_before is) is).places = wm ∙ ap (λ (v : Context). (counts_of v st is).places) p ∙ ap (λ (s : Counts). (counts_of y s is).places) q in
       let made : cells ≡ raw_cells y (counts_before is) is = wc ∙ ap (λ (v : Context). raw_cells v st is) p ∙ ap (λ (s : Counts). raw_cells y s is) q in
-      let joined : pairs ≡ pairs_of y.names is = wp ∙ ap (λ (es : List Entry). pairs_of es is) e in
+      let joined : pairs ≡ pairs_of y.names is = wp ∙ ties_same names 0 is d ∙ ap (λ (es : List Entry). pairs_of es is) e in
       λ i. record { wire_places = wn i; places = places i; cells = made i; pairs = joined i },
 )

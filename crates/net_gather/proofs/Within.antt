@@ -23,17 +23,17 @@ use Rattle.net_gather.specs.declared.file_pin.FilePin.{FilePin}
 use Rattle.net_gather.specs.declared.open_pin.OpenPin.{OpenPin}
 use Rattle.net_gather.specs.declared.open_pin.PinBits.{PinBits}
 use Rattle.net_gather.specs.declared.open_pin.PinBits.TheVariants.{Given, LeftOut}
-use Rattle.net_gather.specs.declared.raw.RawCell.{RawCell}
-use Rattle.net_gather.specs.declared.raw.RawPin.{RawPin}
-use Rattle.net_gather.specs.declared.row.CellRow.{CellRow}
-use Rattle.net_gather.specs.declared.row.Found.{Found}
-use Rattle.net_gather.specs.declared.row.Found.TheVariants as found_as
+use Rattle.raw_cells.specs.declared.raw.RawCell.{RawCell}
+use Rattle.raw_cells.specs.declared.raw.RawPin.{RawPin}
+use Rattle.raw_cells.specs.declared.row.CellRow.{CellRow}
+use Rattle.raw_cells.specs.declared.row.Found.{Found}
+use Rattle.raw_cells.specs.declared.row.Found.TheVariants as found_as
 use Rattle.net_gather.specs.Cells.{Context, found_gain, kind_in, row_gain, row_pins}
 use Rattle.net_gather.specs.FilePins.{file_pins}
 use Rattle.net_gather.specs.Gather.{counted, counts_of, gained, item_gain, raw_cells}
 use Rattle.net_gather.specs.Laws.{cells_bits, CellsWithin, numbers_from, pins_bits, places_from}
 use Rattle.net_gather.specs.OpenPins.{bits_of, bits_open, found_bits, in_file, kept_pins, open_count, raw_pins, table_pins}
-use Rattle.net_gather.specs.Rows.{found_row, is_kept, table_of}
+use Rattle.raw_cells.specs.Rows.{found_row, is_kept, table_of}
 
 -- ---- bits among the first places
 
@@ -66,11 +66,11 @@ loose_many (suc k) = let e : 1 + k ≡ suc k = omega arith in ap (λ n. 1 + n) (
 
 -- ---- pins
 
-abbrev BitsWithin : ℕ → PinBits → Type 0
+abbrev pub BitsWithin : ℕ → PinBits → Type 0
 BitsWithin b (Given ss) = SourcesWithin b ss
 BitsWithin b (LeftOut width) = Unit {0}
 
-abbrev PinsWithin : ℕ → List OpenPin → Type 0
+abbrev pub PinsWithin : ℕ → List OpenPin → Type 0
 PinsWithin b ps = All (λ (p : OpenPin). BitsWithin b p.bits) ps
 
 abbrev FileWithin : ℕ → List FilePin → Type 0
@@ -129,7 +129,7 @@ ordered_within : (b : ℕ) (kept : Bool) (drives : List ℕ → Bool) (ps : List
 ordered_within b true drives ps table w = kept_within b drives ps w
 ordered_within b false drives ps table w = table_within b ps table w
 
-row_within : (b : ℕ) (x : Context) (c : DocCell) (r : CellRow) → There b x.names → PinsWithin b (row_pins x c r)
+pub row_within : (b : ℕ) (x : Context) (c : DocCell) (r : CellRow) → There b x.names → PinsWithin b (row_pins x c r)
 unfolding row_pins
 row_within b x c r t = ordered_within b (is_kept r) (x.drives c.kind) (file_pins x.names c.lines) (table_of x.library r) (lines_within b x.names c.lines t)
 

@@ -17,22 +17,25 @@ use Rattle.net_gather.specs.declared.cell.Gain.{Gain}
 use Rattle.net_gather.specs.declared.counts.Counts.{Counts}
 use Rattle.net_gather.specs.declared.file_pin.FilePin.{FilePin}
 use Rattle.net_gather.specs.declared.open_pin.OpenPin.{OpenPin}
-use Rattle.net_gather.specs.declared.raw.CellShape.{CellShape}
-use Rattle.net_gather.specs.declared.raw.CellShape.TheVariants as shape
-use Rattle.net_gather.specs.declared.raw.Kept.{Kept}
-use Rattle.net_gather.specs.declared.raw.RawCell.{RawCell}
-use Rattle.net_gather.specs.declared.row.CellRow.{CellRow}
-use Rattle.net_gather.specs.declared.row.CellRow.TheVariants as row
-use Rattle.net_gather.specs.declared.row.Found.{Found}
-use Rattle.net_gather.specs.declared.row.Found.TheVariants as found_as
+use Rattle.raw_cells.specs.declared.raw.CellShape.{CellShape}
+use Rattle.raw_cells.specs.declared.raw.CellShape.TheVariants as shape
+use Rattle.raw_cells.specs.declared.raw.Kept.{Kept}
+use Rattle.raw_cells.specs.declared.raw.RawCell.{RawCell}
+use Rattle.raw_cells.specs.declared.row.CellRow.{CellRow}
+use Rattle.raw_cells.specs.declared.row.CellRow.TheVariants as row
+use Rattle.raw_cells.specs.declared.row.Found.{Found}
+use Rattle.raw_cells.specs.declared.row.Found.TheVariants as found_as
 use Rattle.net_gather.specs.Counts.{count_breaches, counts_behind}
 use Rattle.net_gather.specs.Faces.{faces_drive}
 use Rattle.net_gather.specs.FilePins.{file_breaches, file_pins}
-use Rattle.net_gather.specs.OpenPins.{kept_pins, raw_pins, table_pins}
-use Rattle.net_gather.specs.Rows.{clock_breaches, found_row, is_kept, ram_breaches, table_of}
+use Rattle.net_gather.specs.OpenPins.{kept_pins, known_pins, raw_pins, table_pins}
+use Rattle.raw_cells.specs.declared.tied.Tied.{Tied}
+use Rattle.raw_cells.specs.Rows.{found_row, is_kept, ram_breaches, table_of}
+use Rattle.raw_cells.specs.Shaped.{shape_breaches}
+use Rattle.net_gather.specs.PortClocks.{clock_breaches}
 
--- what stands around a cell: the library, the wires of its module, the places of its memories by name, those of RAMs and of modules, and
--- which pins of a kept cell are driven
+-- what stands around a cell: the library, the wires of its module, the places of its memories by name, those of RAMs and of modules,
+-- which pins of a kept cell are driven, and what connects alone tell of the places of wires
 pub record Context : Type 0 where
   pub library : Library
   pub names : List Entry
@@ -40,6 +43,7 @@ pub record Context : Type 0 where
   pub ram : List ℕ → Option ℕ
   pub instance : List ℕ → Option ℕ
   pub drives : List ℕ → List ℕ → Bool
+  pub tied : Tied
 
 abbrev pub context_of : Around → Context
 context_of a = record {
@@ -49,6 +53,7 @@ context_of a = record {
   ram = λ n. found a.rams.now n;
   instance = λ n. found a.faces.now.modules n;
   drives = λ k p. faces_drive a.faces.now k p;
+  tied = a.tied.now;
 }
 
 abbrev pub kind_in : Context → List ℕ → CellKind
@@ -98,9 +103,15 @@ cell_gain x st c = found_gain x st c (params_of c.lines) (found_row x.library (k
 
 -- ---- what is broken, in this order
 
--- its pins, then the clocks of its write ports, and then whether it suits a RAM
+-- a RAM cell with these pins has the shape of its variant
+abbrev pub open_faults : Context → DocCell → CellRow → List FilePin → List Breach
+open_faults x c r pins = shape_breaches x.library x.tied c.name r (known_pins x.tied (open_pins x.library (x.drives c.kind) r pins))
+
+-- its pins, then the clocks of its write ports, and then whether it suits a RAM and has the shape of its variant
 unfoldable pub pin_faults : Context → DocCell → List Attr → CellRow → List Breach
-pin_faults x c params r = file_breaches x.names (table_of x.library r) c.lines ++ (clock_breaches r params ++ ram_breaches x.library r c.lines)
+pin_faults x c params r =
+    file_breaches x.names (table_of x.library r) c.lines
+    ++ (clock_breaches r params ++ (ram_breaches x.library r c.lines ++ open_faults x c r (file_pins x.names c.lines)))
 
 unfoldable pub row_faults : Context → Counts → DocCell → List Attr → CellRow → List Breach
 row_faults x st c params r = pin_faults x c params r ++ count_breaches x.memory st r (row_pins x c r)

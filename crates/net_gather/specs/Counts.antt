@@ -12,8 +12,8 @@ use Rattle.net_wires.specs.declared.breach.Breach.{Breach}
 use Rattle.net_gather.specs.declared.counts.Counts.{Counts}
 use Rattle.net_gather.specs.declared.counts.Tally.{Tally}
 use Rattle.net_gather.specs.declared.open_pin.OpenPin.{OpenPin}
-use Rattle.net_gather.specs.declared.row.CellRow.{CellRow}
-use Rattle.net_gather.specs.declared.row.CellRow.TheVariants as row
+use Rattle.raw_cells.specs.declared.row.CellRow.{CellRow}
+use Rattle.raw_cells.specs.declared.row.CellRow.TheVariants as row
 use Rattle.net_gather.specs.Faults.{limit_breaches}
 use Rattle.net_gather.specs.OpenPins.{bits_size, open_count}
 use Rattle.net_gather.specs.Sizes.{most_nets, seen_breaches}

@@ -16,12 +16,14 @@ use Rattle.net_gather.specs.declared.counts.Counts.{Counts}
 use Rattle.net_gather.specs.declared.faces.Faces.{Faces}
 use Rattle.net_gather.specs.declared.fault.Fault.{Fault}
 use Rattle.net_gather.specs.declared.gathering.Gathered.{Gathered}
-use Rattle.net_gather.specs.declared.raw.RawCell.{RawCell}
+use Rattle.raw_cells.specs.declared.raw.RawCell.{RawCell}
+use Rattle.raw_cells.specs.Tied.{tied_of}
 use Rattle.net_gather.specs.Cells.{cell_breaches, cell_gain, Context}
 use Rattle.net_gather.specs.Counts.{tally_of}
 use Rattle.net_gather.specs.Faces.{faces_drive}
 use Rattle.net_gather.specs.Faults.{at}
 use Rattle.net_gather.specs.Sizes.{size_faults}
+use Rattle.net_gather.specs.Ties.{ties_of}
 
 -- ---- cells
 
@@ -99,6 +101,7 @@ context lib ram faces is = record {
   ram = ram;
   instance = λ n. found faces.modules n;
   drives = λ k p. faces_drive faces k p;
+  tied = tied_of (wire_bits is) (ties_of (spans 0 is) is);
 }
 
 abbrev pub gathered : Context → List Item → Gathered

@@ -1,7 +1,11 @@
 -- Laws of what is gathered.
-use Rattle.std.specs.Prelude.{◌≡◌, ◌≤◌, ℕ, zero, suc, ◌+◌, List, [], ◌∷◌, map, length, Some, nat_lt, if◌then◌else◌}
+use Rattle.std.specs.Prelude.{◌≡◌, ◌≤◌, ◌<◌, ℕ, zero, suc, ◌+◌, true, List, [], ◌∷◌, map, length, get_or, replicate, Option, Some, nat_lt, if◌then◌else◌}
 use Rattle.std.specs.List.{flat_map}
 use Rattle.lib_core.specs.declared.library.Library.{Library}
+use Rattle.lib_core.specs.declared.library.Variant.{Variant}
+use Rattle.net_core.specs.declared.bits.Bit.{Bit}
+use Rattle.net_core.specs.declared.bits.Bit.TheVariants as bits
+use Rattle.net_core.specs.Shape.{fits_library}
 use Rattle.rtlil_text.specs.declared.doc.Item.{Item}
 use Rattle.rtlil_text.specs.Grammar.{All}
 use Rattle.cell_rows.specs.declared.pin.PinRow.{PinRow}
@@ -9,18 +13,29 @@ use Rattle.cell_rows.specs.Pins.{comb_pins, reg_pins}
 use Rattle.mem_rows.specs.Pins.{mem_pins}
 use Rattle.net_wires.specs.declared.source.Source.{Source}
 use Rattle.net_wires.specs.declared.source.Source.TheVariants as source
-use Rattle.net_wires.specs.Links.{PairsWithin, SourcesWithin}
+use Rattle.net_wires.specs.declared.clock.ClockRoot.{ClockRoot}
+use Rattle.net_wires.specs.declared.clock.ClockRoot.TheVariants as leads
+use Rattle.net_wires.specs.declared.clock.Drive.{Drive}
+use Rattle.net_wires.specs.declared.clock.Drive.TheVariants as drive
+use Rattle.net_wires.specs.declared.link.Link.TheVariants as links
+use Rattle.net_wires.specs.Clocks.{driven_by, IsConstant, tied_digits}
+use Rattle.net_wires.specs.Links.{links_of, PairsWithin, SourcesWithin}
+use Rattle.net_wires.specs.Ties.{Leads}
 use Rattle.net_wires.specs.Spans.{Entry, There}
 use Rattle.net_gather.specs.declared.counts.Counts.{Counts}
-use Rattle.net_gather.specs.declared.raw.CellShape.{CellShape}
-use Rattle.net_gather.specs.declared.raw.CellShape.TheVariants as shape
-use Rattle.net_gather.specs.declared.raw.RamUse.{RamUse}
-use Rattle.net_gather.specs.declared.raw.RawCell.{RawCell}
-use Rattle.net_gather.specs.declared.raw.RawPin.{RawPin}
+use Rattle.raw_cells.specs.declared.raw.CellShape.{CellShape}
+use Rattle.raw_cells.specs.declared.raw.CellShape.TheVariants as shape
+use Rattle.raw_cells.specs.declared.raw.RamUse.{RamUse}
+use Rattle.raw_cells.specs.declared.raw.RawCell.{RawCell}
+use Rattle.raw_cells.specs.declared.raw.RawPin.{RawPin}
+use Rattle.net_gather.specs.declared.faces.Faces.{Faces}
+use Rattle.net_gather.specs.declared.gathering.Gathered.{Gathered}
 use Rattle.net_gather.specs.Cells.{Context}
+use Rattle.raw_cells.specs.Clocks.{place_bit}
+use Rattle.raw_cells.specs.RamCells.{ram_of}
 use Rattle.net_gather.specs.FilePins.{in_table}
-use Rattle.net_gather.specs.Gather.{cell_faults, counts_of, faults_of, gathered, pairs_of, raw_cells}
-use Rattle.net_gather.specs.Rows.{variant_of, variant_pins}
+use Rattle.net_gather.specs.Gather.{cell_faults, context, counts_of, faults_of, gathered, pairs_of, raw_cells}
+use Rattle.raw_cells.specs.Rows.{variant_of, variant_pins}
 
 -- no bit is without a place
 abbrev pub AreSettled : List Source → Type 0
@@ -114,3 +129,50 @@ PinsShort = (x : Context) (k : ℕ) (st : Counts) (is : List Item) → cell_faul
 -- The law: connects join bits of wires and constants.
 abbrev pub PairsAreWithin : Type 0
 PairsAreWithin = (n : ℕ) (names : List Entry) (is : List Item) → There n names → PairsWithin n (pairs_of names is)
+
+-- ---- the shape of RAM cells
+
+abbrev pub IsNet : Bit → Type 0
+IsNet b = (k : ℕ) × (b ≡ bits.Net k)
+
+-- the places from n on among these bits never tick
+abbrev pub NeverFrom : ℕ → List ClockRoot → List Source → Type 0
+NeverFrom n roots [] = Unit {0}
+NeverFrom n roots (source.Zero ∷ ss) = NeverFrom n roots ss
+NeverFrom n roots (source.One ∷ ss) = NeverFrom n roots ss
+NeverFrom n roots (source.Loose ∷ ss) = NeverFrom n roots ss
+NeverFrom n roots (source.At p ∷ ss) = (n ≤ p → get_or roots p leads.Unknown ≡ leads.Never) × NeverFrom n roots ss
+
+-- what connects alone drive: these places by a digit without a value
+abbrev pub digit_drives : ℕ → List ℕ → List Drive
+digit_drives n digits = driven_by drive.Digit (replicate n drive.Open) digits
+
+-- The bits and the clocks that are found for the places of a module agree with its connects.
+pub record Agrees (m : Gathered) (places : List Bit) (roots : List ClockRoot) : Type 0 where
+  -- a bit of a wire is the constant that connects lead to, and else a net
+  pub zero : (p : ℕ) → p < m.wire_places → Leads (links_of m.wire_places m.pairs) (links.To p) links.Zero → place_bit places p ≡ bits.Zero
+  pub one : (p : ℕ) → p < m.wire_places → Leads (links_of m.wire_places m.pairs) (links.To p) links.One → place_bit places p ≡ bits.One
+  pub net : (p : ℕ) → p < m.wire_places → (Leads (links_of m.wire_places m.pairs) (links.To p) links.Zero → ⊥)
+      → (Leads (links_of m.wire_places m.pairs) (links.To p) links.One → ⊥) → IsNet (place_bit places p)
+  -- a bit that a pin leaves out, or a digit without a value at a pin, is a net
+  pub unwired : (p : ℕ) → m.wire_places ≤ p → p < m.places → IsNet (place_bit places p)
+  -- no clock ticks from which connects alone lead to a digit of a constant, or which is such a digit
+  pub never : (p : ℕ) → p < m.wire_places → IsConstant (links_of m.wire_places m.pairs) (digit_drives m.wire_places (tied_digits m.pairs)) p → get_or roots p leads.Unknown ≡ leads.Never
+  pub digits : All (λ (c : RawCell). All (λ (p : RawPin). p.clock ≡ true → p.given ≡ true → NeverFrom m.wire_places roots p.bits) c.pins) m.cells
+
+-- a cell of a RAM is a RAM cell of the shape that its variant gives
+abbrev pub ShapeFits : Library → List Bit → List ClockRoot → List ℕ → CellShape → List RawPin → Type 0
+ShapeFits lib places roots name (shape.Comb r) ps = Unit {0}
+ShapeFits lib places roots name (shape.Reg r) ps = Unit {0}
+ShapeFits lib places roots name (shape.Carried k) ps = Unit {0}
+ShapeFits lib places roots name (shape.Memory k r) ps = Unit {0}
+ShapeFits lib places roots name (shape.Ram u) ps = (v : Variant) × (variant_of lib u ≡ Some v) × (fits_library lib (ram_of places roots name u v ps) ≡ true)
+
+abbrev pub CellsShaped : Library → List Bit → List ClockRoot → List RawCell → Type 0
+CellsShaped lib places roots cs = All (λ (c : RawCell). ShapeFits lib places roots c.name c.shape c.pins) cs
+
+-- The law: where nothing is wrong, each cell of a RAM has the shape of its variant, whichever bits and clocks are found that agree
+-- with the connects.
+abbrev pub RamsFit : Type 0
+RamsFit = (lib : Library) (ram : List ℕ → Option ℕ) (f : Faces) (is : List Item) (places : List Bit) (roots : List ClockRoot)
+    → faults_of (context lib ram f is) is ≡ [] → Agrees (gathered (context lib ram f is) is) places roots → CellsShaped lib places roots (gathered (context lib ram f is) is).cells

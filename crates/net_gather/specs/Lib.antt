@@ -1,10 +1,11 @@
 pub mod Faults
 pub mod Sizes
-pub mod Rows
+pub mod PortClocks
 pub mod FilePins
 pub mod OpenPins
 pub mod Counts
 pub mod Faces
+pub mod Ties
 pub mod Cells
 pub mod Gather
 pub mod Laws

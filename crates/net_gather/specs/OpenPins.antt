@@ -11,7 +11,8 @@ use Rattle.net_gather.specs.declared.file_pin.FilePin.{FilePin}
 use Rattle.net_gather.specs.declared.open_pin.OpenPin.{OpenPin}
 use Rattle.net_gather.specs.declared.open_pin.PinBits.{PinBits}
 use Rattle.net_gather.specs.declared.open_pin.PinBits.TheVariants.{Given, LeftOut}
-use Rattle.net_gather.specs.declared.raw.RawPin.{RawPin}
+use Rattle.raw_cells.specs.declared.raw.RawPin.{RawPin}
+use Rattle.raw_cells.specs.declared.tied.Tied.{Tied}
 
 -- ---- the pins in their order
 
@@ -67,3 +68,21 @@ raw_pin from p = record { name = p.name; given = is_given p.bits; drives = p.dri
 abbrev pub raw_pins : ℕ → List OpenPin → List RawPin
 raw_pins from [] = []
 raw_pins from (p ∷ ps) = raw_pin from p ∷ raw_pins (from + bits_open p.bits) ps
+
+-- ---- the pins before open bits have places of their own: what is left out stands at one place, and all digits at another
+
+abbrev pub known_source : Tied → Source → Source
+known_source t source.Zero = source.Zero
+known_source t source.One = source.One
+known_source t source.Loose = source.At t.digit
+known_source t (source.At p) = source.At p
+
+abbrev pub known_bits : Tied → PinBits → List Source
+known_bits t (Given ss) = map (known_source t) ss
+known_bits t (LeftOut width) = replicate width (source.At t.left_out)
+
+abbrev pub known_pin : Tied → OpenPin → RawPin
+known_pin t p = record { name = p.name; given = is_given p.bits; drives = p.drives; clock = p.clock; bits = known_bits t p.bits }
+
+abbrev pub known_pins : Tied → List OpenPin → List RawPin
+known_pins t pins = map (known_pin t) pins

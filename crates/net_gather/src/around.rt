@@ -3,6 +3,7 @@ use crate::faces::Faces;
 use cell_rows::Places;
 use lib_core::Library;
 use net_wires::Names;
+use raw_cells::Tied;
 
 /// What stands around a cell.
 #[derive(Drop)]
@@ -16,4 +17,6 @@ pub(crate) struct Around<'a> {
     pub rams: &'a Places,
     /// The modules of the file.
     pub faces: &'a Faces,
+    /// What connects alone tell of the places of wires.
+    pub tied: &'a Tied,
 }

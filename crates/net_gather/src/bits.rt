@@ -5,9 +5,9 @@ ghost use Rattle.net_wires.specs.Settled.{settled};
 ghost use Rattle.net_gather.specs.OpenPins as opens;
 
 use crate::open_pin::{OpenPin, PinBits};
-use crate::raw::RawPin;
 use lib_core::{List, Memory};
 use net_wires::{Source, loose_count, settled};
+use raw_cells::RawPin;
 use std::alloc::Global;
 
 /// So many places from `from` on.
@@ -47,7 +47,8 @@ pub(crate) fn bits_size(bits: &PinBits) -> u64
     }
 }
 
-fn is_given(bits: &PinBits) -> bool
+/// Whether the file gives the bits of a pin.
+pub(crate) fn is_given(bits: &PinBits) -> bool
     ensures { result ≡ opens.is_given bits.now }
 {
     match bits {

@@ -5,7 +5,8 @@ ghost use Rattle.net_wires.specs.Spans.{There};
 ghost use Rattle.net_gather.specs.Cells as cells;
 ghost use Rattle.net_gather.specs.Faces.{faces_drive};
 ghost use Rattle.net_gather.specs.OpenPins as opens;
-ghost use Rattle.net_gather.specs.Rows as rows;
+ghost use Rattle.raw_cells.specs.Rows as rows;
+ghost use Rattle.raw_cells.specs.Shaped.{shape_breaches};
 ghost use Rattle.doc_params.specs.Docs.{params_of};
 
 use crate::around::Around;
@@ -14,15 +15,16 @@ use crate::clocks::have_clocks;
 use crate::counts::{Counts, count_cell};
 use crate::faces::Faces;
 use crate::file_pin::{FilePin, file_pins};
+use crate::known::known_pins;
 use crate::open_pin::{OpenPin, kept_pin, table_pins};
-use crate::ram::suits_ram;
-use crate::raw::{CellShape, Kept, RawCell};
-use crate::row::{CellRow, Found, found_row, is_kept, table_of};
 use cell_rows::{CellKind, CombRow, PinRow, is_carried_row, kind_of};
 use doc_params::{attrs_of, params_of};
 use lib_core::{List, Memory, Name};
 use net_core::Attr;
 use net_wires::{BuildCode, Stop, broken};
+use raw_cells::{
+    CellRow, CellShape, Found, Kept, RawCell, found_row, has_shape, is_kept, suits_ram, table_of,
+};
 use rtlil_text::DocCell;
 use std::alloc::Global;
 
@@ -120,8 +122,57 @@ fn open_pins(
     }
 }
 
+/// Stops where a RAM cell does not have the shape of its variant (`BadRam`).
+fn suits_shape(
+    alloc: Global,
+    around: &Around,
+    name: &Name,
+    row: &CellRow,
+    pins: &[OpenPin],
+) -> Result<(), Stop>
+    ensures { Finds result (shape_breaches around.now.library.now around.now.tied.now name.now row.now (opens.known_pins around.now.tied.now pins.now)) (λ _. Unit {0}) }
+{
+    match row {
+        CellRow::Ram(cell) => {
+            let known = known_pins(alloc, around.tied, pins)?;
+            has_shape(
+                alloc,
+                around.library,
+                around.tied,
+                name,
+                cell,
+                known.as_slice(),
+            )
+        }
+        CellRow::Comb(_) => Ok(()),
+        CellRow::Reg(_) => Ok(()),
+        CellRow::Memory(_) => Ok(()),
+        CellRow::StrangeRam => Ok(()),
+        CellRow::Kept => Ok(()),
+    }
+}
+
+/// The pins of a cell in their order. It stops where a RAM cell does not have the shape of its
+/// variant.
+fn shaped_pins(
+    alloc: Global,
+    around: &Around,
+    cell: &DocCell,
+    row: &CellRow,
+    table: &[PinRow],
+    pins: &[FilePin],
+) -> Result<List<OpenPin>, Stop>
+    requires table { table.now ≡ rows.table_of around.now.library.now row.now }
+    ensures { Finds result (cells.open_faults (cells.context_of around.now) cell.now row.now pins.now) (λ list. list ≡ cells.open_pins around.now.library.now (λ p. (cells.context_of around.now).drives cell.now.kind p) row.now pins.now) }
+{
+    let pins = open_pins(alloc, around, &cell.kind, row, table, pins)?;
+    suits_shape(alloc, around, &cell.name, row, pins.as_slice())?;
+    Ok(pins)
+}
+
 /// The pins of a cell with this row, in their order. It stops at the first pin that is wrong, and
-/// then where a write port has no clock, or where a RAM cell suits no RAM.
+/// then where a write port has no clock, or where a RAM cell suits no RAM or lacks the shape of its
+/// variant.
 #[tactic(auto, unfolding(crate::specs::Cells::pin_faults, crate::specs::Cells::row_pins))]
 fn row_pins(
     alloc: Global,
@@ -138,7 +189,7 @@ fn row_pins(
     let file = file_pins(alloc, &around.names, table, cell.lines.as_slice())?;
     have_clocks(alloc, row, params)?;
     suits_ram(around.library, row, cell.lines.as_slice())?;
-    Ok(open_pins(alloc, around, &cell.kind, row, table, file.as_slice())?)
+    Ok(shaped_pins(alloc, around, cell, row, table, file.as_slice())?)
 }
 
 /// A cell, whose open bits have places from `from` on.

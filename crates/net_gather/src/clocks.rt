@@ -1,13 +1,13 @@
 //! Write ports without a clock.
 ghost use Rattle.std.specs.Prelude.{◌≡◌, IfOk, slice_get};
 ghost use Rattle.net_wires.specs.Finds.{Finds};
-ghost use Rattle.net_gather.specs.Rows as rows;
+ghost use Rattle.net_gather.specs.PortClocks as rows;
 
-use crate::row::CellRow;
 use lib_core::{Memory, Tri};
 use mem_rows::{MemRow, bits};
 use net_core::Attr;
 use net_wires::{BuildCode, Stop, broken};
+use raw_cells::CellRow;
 use std::alloc::Global;
 
 /// Whether the bit at a place is there and 1.
@@ -35,7 +35,7 @@ fn any_lacks_clock(continues: &[Tri], clocked: &[Tri], ports: u32) -> bool
     false
 }
 
-#[tactic(auto, unfolding(crate::specs::Rows::some_lacks_clock))]
+#[tactic(auto, unfolding(crate::specs::PortClocks::some_lacks_clock))]
 fn some_lacks_clock(alloc: Global, params: &[Attr], ports: u32) -> Result<bool, Memory>
     ensures { IfOk result (λ lacks. lacks ≡ rows.some_lacks_clock params.now ports) }
 {

@@ -10,12 +10,12 @@ ghost use Rattle.net_gather.specs.OpenPins.{open_count};
 use crate::bits::{bits_open, bits_size};
 use crate::limits::{add_within, few, unlimited};
 use crate::open_pin::OpenPin;
-use crate::row::CellRow;
 use crate::sizes::MOST_NETS;
 use cell_rows::Places;
 use lib_core::List;
 use mem_rows::{MemRow, PortRow, whole_limit};
 use net_wires::Stop;
+use raw_cells::CellRow;
 
 const MOST_PIN_BITS: u32 = 16_777_216;
 

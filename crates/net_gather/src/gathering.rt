@@ -12,14 +12,15 @@ ghost use Rattle.net_gather.specs.Gather as gathers;
 
 use crate::around::Around;
 use crate::cell::gather_cell;
+use crate::connects::{Connects, tie_items};
 use crate::counts::{Counts, Tally};
 use crate::faces::Faces;
 use crate::fault::{Halt, halt_at};
-use crate::raw::RawCell;
 use crate::sizes::count_bits;
 use cell_rows::Places;
 use lib_core::{Library, List, Memory, Name};
-use net_wires::{Names, Pair, Stop, connect, names_of};
+use net_wires::{Pair, Stop, names_of};
+use raw_cells::{RawCell, tied_of};
 use rtlil_text::Item;
 use std::alloc::Global;
 
@@ -158,39 +159,6 @@ fn gather_cells(
     })
 }
 
-/// Puts the pairs of an item behind the others, if it is a connect.
-fn connect_item(
-    alloc: Global,
-    names: &Names,
-    pairs: &mut Vec<Pair>,
-    item: &Item,
-) -> Result<(), Stop>
-    requires near { There 4294967295 names.now }
-    ensures { Finds result (gathers.item_connect_breaches names.now item.now) (λ _. pairs.new.items ≡ pairs.old.items ++ gathers.item_pairs names.now item.now) }
-{
-    if let Item::Connect { left, right } = item {
-        connect(alloc, names, left.as_slice(), right.as_slice(), pairs)?;
-    }
-    Ok(())
-}
-
-fn gather_pairs(alloc: Global, names: &Names, items: &[Item]) -> Result<List<Pair>, Halt>
-    requires near { There 4294967295 names.now }
-    ensures { FindsFirst result (gathers.connect_faults names.now 0 items.now) (λ pairs. pairs ≡ gathers.pairs_of names.now items.now) }
-{
-    let mut pairs = Vec::new(alloc);
-    let mut place = 0usize;
-    let mut rest = items;
-    while let [item, tail @ ..] = rest {
-        if let Err(stop) = connect_item(alloc, names, &mut pairs, item) {
-            return Err(halt_at(place, stop));
-        }
-        place += 1;
-        rest = tail;
-    }
-    Ok(List::from_vec(pairs))
-}
-
 /// The cells and the connected bits of a module's items, where the RAMs of the library stand at
 /// these places and the file has these modules. It stops at the first fault: the wires and memories are looked at first, then
 /// the cells, and then the connects, each in file order.
@@ -205,16 +173,22 @@ pub fn gather(
     ensures { FindsFirst result (gathers.faults_of (gathers.context library.now (λ n. found rams.now n) faces.now items.now) items.now) (λ made. made ≡ gathers.gathered (gathers.context library.now (λ n. found rams.now n) faces.now items.now) items.now) }
 {
     let wire_places = count_bits(items)?;
+    let names = names_of(alloc, items)?;
+    let Connects { pairs, fault } = tie_items(alloc, &names, items)?;
+    let tied = tied_of(alloc, wire_places, pairs.as_slice())?;
     let around = Around {
         library,
-        names: names_of(alloc, items)?,
+        names,
         memories: memories_of(alloc, items)?,
         rams,
         faces,
+        tied: &tied,
     };
     let counts = counts_before(alloc, wire_places, items)?;
     let found = gather_cells(alloc, &around, counts, items)?;
-    let pairs = gather_pairs(alloc, &around.names, items)?;
+    if let Some(fault) = fault {
+        return Err(Halt::Broken(fault));
+    }
     Ok(Gathered {
         wire_places,
         places: found.places,

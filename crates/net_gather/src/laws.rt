@@ -1,6 +1,6 @@
 //! Laws of what is gathered, each the contract of a function that does nothing.
 ghost use Rattle.net_gather.specs.Faces.{ShownDrive};
-ghost use Rattle.net_gather.specs.Laws.{BitsSettled, PairsAreWithin, PinsShort, PlacesFew, PlacesInOrder, PlacesWithin, TablesFit};
+ghost use Rattle.net_gather.specs.Laws.{BitsSettled, PairsAreWithin, PinsShort, PlacesFew, PlacesInOrder, PlacesWithin, RamsFit, TablesFit};
 
 /// What is kept of the modules of a file tells which pins their interfaces drive.
 pub fn shown_drive()
@@ -41,4 +41,10 @@ pub fn pins_short()
 /// Connects join bits of wires and constants.
 pub fn pairs_within()
     ensures { PairsAreWithin }
+{}
+
+/// Where nothing is wrong, each cell of a RAM has the shape of its variant, whichever bits and clocks are
+/// found that agree with the connects.
+pub fn rams_fit()
+    ensures { RamsFit }
 {}

@@ -2,7 +2,7 @@
 ghost use Rattle.std.specs.Prelude.{◌≡◌, ◌<◌, ◌^◌, ◌++◌, ◌||◌, ℕ, [], replicate, List as Seq, IfOk};
 ghost use Rattle.std.specs.List.{list_any};
 ghost use Rattle.net_wires.specs.Counting.{bump, bump_all, IsFirstAboveOne};
-ghost use Rattle.net_wires.specs.Drivers.{driver_breaches, IsFirstDouble, is_constant, Tally};
+ghost use Rattle.net_wires.specs.Drivers.{driver_breaches, is_constant, is_doubly_driven, IsFirstDouble, Tally};
 ghost use Rattle.net_wires.specs.Finds.{Finds};
 ghost use Rattle.net_wires.specs.declared.source.Source.{Source as Sources};
 
@@ -90,6 +90,16 @@ impl Drivers {
     {
         bump_all(&mut self.counts, sources);
         self.constant = self.constant | any_constant(sources);
+    }
+
+    /// Whether this place has two drivers.
+    pub fn is_double(&self, place: u32) -> bool
+        ensures { (n : ℕ) (driven : Seq Sources) → Tally n driven self.now → place < n → result ≡ is_doubly_driven driven place }
+    {
+        match self.counts.get(place as usize) {
+            Some(count) => *count > 1,
+            None => false,
+        }
     }
 
     /// The first place with two drivers.

@@ -9,7 +9,8 @@ pub mod slots;
 #[cfg(test)]
 mod tests;
 
+pub use names::slot_name;
 pub use options::{Chosen, chosen_by};
-pub use pins::{SlotPin, knows_param, knows_pin, pin_width, slot_pins};
+pub use pins::{SlotPin, knows_param, knows_pin, pin_width, slot_pins, suffix};
 pub use row::{RamRow, has_strange_level, row_at};
 pub use slots::{Level, SlotRow, Values};

@@ -1,4 +1,4 @@
-use Rattle.std.proofs.Common.{◌≡◌, ◌++◌, length, map}
+use Rattle.std.proofs.Common.{◌≡◌, ◌++◌, length}
 use Rattle.net_cells.specs.Cells as spec
 use Rattle.net_cells.proofs.cells.starts_at.Given as goal
 

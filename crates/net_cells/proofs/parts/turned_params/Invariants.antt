@@ -1,4 +1,4 @@
-use Rattle.std.proofs.Common.{◌≡◌, ◌++◌, length, map}
+use Rattle.std.proofs.Common.{◌≡◌, ◌++◌, length}
 use Rattle.net_cells.specs.Parts as spec
 use Rattle.net_cells.proofs.parts.turned_params.Given as goal
 

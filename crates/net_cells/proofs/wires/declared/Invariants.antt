@@ -1,4 +1,4 @@
-use Rattle.std.proofs.Common.{◌≡◌, ◌++◌, length, map}
+use Rattle.std.proofs.Common.{◌≡◌, ◌++◌, length}
 use Rattle.net_cells.specs.Wires as spec
 use Rattle.net_cells.proofs.wires.declared.Given as goal
 

@@ -1,5 +1,5 @@
 use Rattle.std.proofs.Common.{◌≡◌}
-use Rattle.net_gather.specs.Rows.{any_below, lacks_clock}
+use Rattle.net_gather.specs.PortClocks.{any_below, lacks_clock}
 use Rattle.net_gather.proofs.clocks.any_lacks_clock.Given as goal
 
 abbrev pub invariant-loop-left : goal.invariant-loop-left

@@ -1,0 +1,9 @@
+pub mod Finds
+pub mod Names
+pub mod Marks
+pub mod Driven
+pub mod Joined
+pub mod Inouts
+pub mod ClockPins
+pub mod Checks
+pub mod Laws

@@ -1,0 +1,13 @@
+//! The module that the items of a module in a document mean, put together of its cells; and its nodes.
+#![tactic(auto)]
+
+mod assembly;
+mod bodies;
+mod made;
+mod node;
+mod part_nodes;
+#[cfg(test)]
+mod tests;
+
+pub use assembly::{Assembled, assemble};
+pub use made::{Around, Made, made_of};
