@@ -1,0 +1,13 @@
+pub mod Written
+pub mod Names
+pub mod Wires
+pub mod Assembly
+pub mod Cells
+pub mod Rams
+pub mod Modules
+pub mod Driven
+pub mod Drivers
+pub mod Texts
+pub mod Clocks
+pub mod Whole
+pub mod RamParts

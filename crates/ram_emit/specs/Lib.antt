@@ -1,0 +1,5 @@
+pub mod Plain
+pub mod Judging
+pub mod Cell
+pub mod Laws
+pub mod Placing
