@@ -14,8 +14,8 @@ use crate::looked::cell_clocks;
 use crate::roots::root_places;
 use lib_core::{List, Memory};
 use net_gather::Gathered;
-use raw_cells::RawCell;
 use net_wires::{BuildCode, ClockRoot, Source, clock_of, clocks};
+use raw_cells::RawCell;
 use rtlil_text::Item;
 use std::alloc::Global;
 

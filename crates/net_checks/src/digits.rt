@@ -6,8 +6,8 @@ ghost use Rattle.net_checks.specs.ClockPins as spec;
 
 use lib_core::Memory;
 use net_gather::Gathered;
-use raw_cells::{RawCell, RawPin};
 use net_wires::{Source, tied_digits};
+use raw_cells::{RawCell, RawPin};
 use std::alloc::Global;
 
 /// Puts the places among bits behind others that do not come before `from`.

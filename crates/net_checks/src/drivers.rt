@@ -16,8 +16,8 @@ use crate::marking::{Port, port_bits, wire_with};
 use crate::sources::push_driven;
 use lib_core::{Memory, Name};
 use net_gather::Gathered;
-use raw_cells::{RawCell, RawPin};
 use net_wires::{BuildCode, Drivers, Link, Pair, Source, Stop};
+use raw_cells::{RawCell, RawPin};
 use rtlil_text::Item;
 use std::alloc::Global;
 

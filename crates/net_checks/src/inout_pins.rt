@@ -17,8 +17,8 @@ use crate::naming::connect_name;
 use crate::sources::push_all;
 use lib_core::{Memory, Name};
 use net_gather::Gathered;
-use raw_cells::{CellShape, RawCell, RawPin};
 use net_wires::{BuildCode, Names, Pair, Source, connect, names_of};
+use raw_cells::{CellShape, RawCell, RawPin};
 use rtlil_text::{Item, Part};
 use std::alloc::Global;
 

@@ -7,8 +7,8 @@ ghost use Rattle.net_checks.specs.ClockPins as spec;
 use cell_rows::CombRow;
 use lib_core::Memory;
 use net_core::CombKind;
-use raw_cells::{CellShape, RawCell, RawPin};
 use net_wires::{Inverter, Source};
+use raw_cells::{CellShape, RawCell, RawPin};
 use std::alloc::Global;
 
 fn pin_named<'a>(pins: &'a [RawPin], name: &[u8]) -> Option<&'a RawPin>

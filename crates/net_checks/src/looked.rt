@@ -7,8 +7,8 @@ use crate::sources::push_all;
 use lib_core::{List, Memory, Tri};
 use mem_rows::{MemRow, bits};
 use net_core::Attr;
-use raw_cells::{CellShape, Kept, RawCell, RawPin};
 use net_wires::Source;
+use raw_cells::{CellShape, Kept, RawCell, RawPin};
 use std::alloc::Global;
 
 /// Whether the bit at a place is there and 1.

@@ -6,8 +6,8 @@ ghost use Rattle.net_checks.specs.ClockPins as spec;
 use crate::marking::{Port, port_bits};
 use crate::sources::push_driven;
 use lib_core::Memory;
-use raw_cells::{CellShape, RawCell};
 use net_wires::Source;
+use raw_cells::{CellShape, RawCell};
 use rtlil_text::Item;
 use std::alloc::Global;
 

@@ -4,8 +4,8 @@ ghost use Rattle.std.specs.List.{flat_map};
 ghost use Rattle.net_checks.specs.Driven as spec;
 
 use lib_core::Memory;
-use raw_cells::{RawCell, RawPin};
 use net_wires::Source;
+use raw_cells::{RawCell, RawPin};
 
 /// Puts bits behind others.
 pub(crate) fn push_all(bits: &mut Vec<Source>, more: &[Source]) -> Result<(), Memory>

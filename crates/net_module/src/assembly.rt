@@ -20,8 +20,8 @@ use lib_core::{Library, List, Memory, Name, Tri};
 use net_cells::{declared, starts_of, wires_from};
 use net_core::{Attr, Mem, MemPart, Module, Wire};
 use net_loops::NetNode;
-use raw_cells::{CellShape, RawCell};
 use net_wires::{ClockRoot, Nets};
+use raw_cells::{CellShape, RawCell};
 use rtlil_text::{DocModule, Item};
 use std::alloc::Global;
 

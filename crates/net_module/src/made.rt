@@ -7,9 +7,9 @@ ghost use Rattle.net_module.specs.Made as spec;
 use lib_core::{Library, List, Memory, Name, Tri};
 use net_cells::{carried_of, comb_of, part_of, reg_of};
 use net_core::{Bit, Carried, Comb, MemPart, RamCell, Reg};
+use net_wires::ClockRoot;
 use raw_cells::ram_cell::narrow;
 use raw_cells::{CellShape, RamUse, RawCell, RawPin, ram_of, variant_of};
-use net_wires::ClockRoot;
 use std::alloc::Global;
 
 /// What stands around the cells of a module.
@@ -58,7 +58,15 @@ fn ram_under(
 {
     match variant_of(around.library, cell) {
         None => bare(alloc, name, cell),
-        Some(variant) => ram_of(alloc, around.places, around.roots, name, cell, variant, pins),
+        Some(variant) => ram_of(
+            alloc,
+            around.places,
+            around.roots,
+            name,
+            cell,
+            variant,
+            pins,
+        ),
     }
 }
 
@@ -94,11 +102,5 @@ fn shaped(
 pub fn made_of(alloc: Global, around: &Around<'_>, cell: &RawCell) -> Result<Made, Memory>
     ensures { IfOk result (λ made. made ≡ spec.made_of (spec.wiring around.now) cell.now) }
 {
-    shaped(
-        alloc,
-        around,
-        &cell.name,
-        cell.pins.as_slice(),
-        &cell.shape,
-    )
+    shaped(alloc, around, &cell.name, cell.pins.as_slice(), &cell.shape)
 }

@@ -62,7 +62,11 @@ fn read_node(alloc: Global, read: &RdPort) -> Result<NetNode, Memory>
 }
 
 /// Puts the nodes of the ports of a RAM cell behind others.
-pub(crate) fn push_slots(alloc: Global, list: &mut Vec<NetNode>, ram: &RamCell) -> Result<(), Memory>
+pub(crate) fn push_slots(
+    alloc: Global,
+    list: &mut Vec<NetNode>,
+    ram: &RamCell,
+) -> Result<(), Memory>
     ensures { OnOk result (map node_of list.new.items ≡ map node_of list.old.items ++ nodes.ram_nodes ram.now) }
 {
     let mut rest = ram.slots.as_slice();
@@ -74,7 +78,11 @@ pub(crate) fn push_slots(alloc: Global, list: &mut Vec<NetNode>, ram: &RamCell) 
 }
 
 /// Puts the nodes of read ports behind others.
-pub(crate) fn push_reads(alloc: Global, list: &mut Vec<NetNode>, reads: &[RdPort]) -> Result<(), Memory>
+pub(crate) fn push_reads(
+    alloc: Global,
+    list: &mut Vec<NetNode>,
+    reads: &[RdPort],
+) -> Result<(), Memory>
     ensures { OnOk result (map node_of list.new.items ≡ map node_of list.old.items ++ map (λ r. nodes.read_node r) reads.now) }
 {
     let mut rest = reads;

@@ -31,7 +31,11 @@ fn wide_over(word: u32, port: u32) -> u32
         return 0;
     }
     let words = port / word;
-    if word * words == port { wide_of(words) } else { 0 }
+    if word * words == port {
+        wide_of(words)
+    } else {
+        0
+    }
 }
 
 /// The wide number of a port of the memory of a name; 0 where no such memory is declared.
@@ -47,12 +51,7 @@ fn wide_in(memories: &Memories, name: &Name, port: u32) -> u32
     }
 }
 
-fn port_needs(
-    alloc: Global,
-    clocked: bool,
-    wide: u32,
-    part: &MemPart,
-) -> Result<List<Bit>, Memory>
+fn port_needs(alloc: Global, clocked: bool, wide: u32, part: &MemPart) -> Result<List<Bit>, Memory>
     ensures { IfOk result (λ bits. bits ≡ spec.port_needs clocked wide part.now) }
 {
     if clocked {
