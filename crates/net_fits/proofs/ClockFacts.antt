@@ -43,7 +43,7 @@ use Rattle.raw_cells.specs.Bits.{bits_of, sources_at}
 use Rattle.net_cells.specs.Cells.{carried_of, reg_of}
 use Rattle.raw_cells.specs.Clocks.{clock_at, clock_by, first_root, place_bit, root_clock}
 use Rattle.net_cells.specs.Wires.{wire_of, wires_from}
-use Rattle.net_fits.specs.Assembly.{carried_by, carried_cells, module_of, reg_by, regs_of}
+use Rattle.net_module.specs.Assembly.{carried_by, carried_cells, module_of, reg_by, regs_of}
 use Rattle.net_fits.specs.Clocks.{ComesFrom, kept_by, kept_sources, root_sources, RootsAmong}
 use Rattle.net_fits.specs.Rams.{is_this}
 use Rattle.net_fits.proofs.Ends.{Behind, behind_more, behind_none, behind_one}
@@ -255,8 +255,8 @@ module _ (n : ℕ) (places : List Bit) where
 
 pub clocks_are_inputs : (x : Context) (m : DocModule) (places : List Bit) (count : ℕ) (roots : List ClockRoot) (starts : List Tri) (rams : List RamCell)
     → RootsAmong (root_sources m.items (gathered x m.items).cells) roots → All (ComesFrom places roots) (flat_map ram_clocks rams)
-    → (k net : ℕ) (rising : Bool) → slice_get (clocks_of (module_of m (gathered x m.items) places count roots starts rams)) k ≡ Some (clock.Root net rising)
-    → (place : ℕ) × (slice_get (inputs_of (module_of m (gathered x m.items) places count roots starts rams)) place ≡ Some net)
+    → (k net : ℕ) (rising : Bool) → slice_get (clocks_of (module_of m (gathered x m.items).cells places count roots starts rams)) k ≡ Some (clock.Root net rising)
+    → (place : ℕ) × (slice_get (inputs_of (module_of m (gathered x m.items).cells places count roots starts rams)) place ≡ Some net)
 unfolding module_of
 clocks_are_inputs x m places count roots starts rams among rams_come k net rising at =
     let cs = (gathered x m.items).cells in

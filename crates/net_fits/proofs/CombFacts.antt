@@ -25,7 +25,7 @@ use Rattle.net_gather.specs.Gather.{gathered}
 use Rattle.net_gather.specs.Laws.{FitsShape, FitsTable, PinsShort, TablesFit}
 use Rattle.raw_cells.specs.Bits.{bits_at}
 use Rattle.net_cells.specs.Cells.{comb_of}
-use Rattle.net_fits.specs.Assembly.{comb_by, combs_of}
+use Rattle.net_module.specs.Assembly.{comb_by, combs_of}
 use Rattle.net_fits.specs.Cells.{CellsDriveNets, DrivesNets, IsSound, width_of}
 use Rattle.net_fits.proofs.Lists.{all_flat, all_then, each_of}
 use Rattle.net_fits.proofs.Rows.{Unsigned}

@@ -36,7 +36,7 @@ use Rattle.raw_cells.specs.Bits.{bits_of}
 use Rattle.net_cells.specs.Cells.{carried_of, pin_of, pins_of}
 use Rattle.net_cells.specs.Clocks.{clock_bit}
 use Rattle.net_cells.specs.Parts.{clock_bits, edge_attr, edge_params, flips_at, part_bits, part_of, part_params, part_pin, part_pins, turned, turned_attr, turned_params, whole_params}
-use Rattle.net_fits.specs.Assembly.{carried_by, carried_cells, part_by, parts_of}
+use Rattle.net_module.specs.Assembly.{carried_by, carried_cells, part_by, parts_of}
 use Rattle.net_fits.specs.Cells.{CellsDriveNets, DrivesNets, IsSound}
 use Rattle.net_fits.proofs.Attrs.{distinct_apart}
 use Rattle.net_fits.proofs.Lists.{all_back, all_flat, all_of, all_then, each_of, length_map}

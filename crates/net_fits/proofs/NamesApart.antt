@@ -31,7 +31,7 @@ use Rattle.net_gather.specs.Gather.{counted, counts_before, gained, gathered, it
 use Rattle.raw_cells.specs.Rows.{found_row}
 use Rattle.net_cells.specs.Cells.{carried_of, comb_of, reg_of}
 use Rattle.net_cells.specs.Parts.{part_of}
-use Rattle.net_fits.specs.Assembly.{carried_by, carried_cells, comb_by, combs_of, module_of, part_by, parts_of, reg_by, regs_of}
+use Rattle.net_module.specs.Assembly.{carried_by, carried_cells, comb_by, combs_of, module_of, part_by, parts_of, reg_by, regs_of}
 use Rattle.net_fits.specs.Cells.{IsSound}
 use Rattle.net_fits.specs.Rams.{AreRams, EachRamOf, ram_by, ram_cells}
 use Rattle.net_fits.proofs.Attrs.{distinct_once, own_bytes}
@@ -134,7 +134,7 @@ parts_sum p a b c d e =
     omega (arith, one, two, three, four)
 
 pub cell_names_apart : (modules : List Interface) (x : Context) (m : DocModule) (places : List Bit) (count : ℕ) (roots : List ClockRoot) (starts : List Tri) (rams : List RamCell) → IsSound modules x m → AreRams places count (gathered x m.items).cells rams
-    → AreApart (cell_names (module_of m (gathered x m.items) places count roots starts rams))
+    → AreApart (cell_names (module_of m (gathered x m.items).cells places count roots starts rams))
 unfolding module_of
 cell_names_apart modules x m places count roots starts rams s are =
     let cs = (gathered x m.items).cells in

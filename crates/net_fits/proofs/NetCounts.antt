@@ -42,7 +42,7 @@ use Rattle.net_gather.specs.Laws.{CellsFit, FitsShape, FitsTable, row_of_pin}
 use Rattle.raw_cells.specs.Bits.{bits_at, bits_of, pin_named, sources_of}
 use Rattle.net_cells.specs.Cells.{carried_of, comb_of, pin_of, pins_of, reg_of}
 use Rattle.net_cells.specs.Wires.{wire_of, wires_from}
-use Rattle.net_fits.specs.Assembly.{carried_by, carried_cells, comb_by, combs_of, reg_by, regs_of}
+use Rattle.net_module.specs.Assembly.{carried_by, carried_cells, comb_by, combs_of, reg_by, regs_of}
 use Rattle.net_fits.specs.Driven.{cell_sources}
 use Rattle.net_fits.specs.Rams.{driving_sources, EachRamOf, is_this, outs_of, ram_by, ram_cells}
 use Rattle.net_fits.proofs.Ends.{Behind, behind_more, behind_one, counts_are, IsEnd}

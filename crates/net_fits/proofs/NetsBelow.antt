@@ -34,7 +34,7 @@ use Rattle.net_cells.specs.Cells.{carried_of, comb_of, pins_of, reg_of}
 use Rattle.net_cells.specs.Clocks.{bit_by}
 use Rattle.net_cells.specs.Parts.{clock_bits, part_of, part_pins}
 use Rattle.net_cells.specs.Wires.{wire_of, wires_from}
-use Rattle.net_fits.specs.Assembly.{carried_by, carried_cells, comb_by, combs_of, module_of, part_by, parts_of, reg_by, regs_of}
+use Rattle.net_module.specs.Assembly.{carried_by, carried_cells, comb_by, combs_of, module_of, part_by, parts_of, reg_by, regs_of}
 use Rattle.net_fits.specs.Rams.{AreRams, EachRamOf, IsBelow, ram_cells}
 use Rattle.net_fits.proofs.Lists.{all_flat, all_join, all_map, each_of}
 
@@ -232,7 +232,7 @@ module _ (places : List Bit) (count : ℕ) (within : All (IsBelow count) places)
 -- ---- the module
 
 pub nets_below : (m : DocModule) (g : Gathered) (places : List Bit) (count : ℕ) (roots : List ClockRoot) (starts : List Tri) (rams : List RamCell) → InOrder 0 places count → AreRams places count g.cells rams
-    → (n : ℕ) → HasNet (all_bits (module_of m g places count roots starts rams)) n → n < (module_of m g places count roots starts rams).nets
+    → (n : ℕ) → HasNet (all_bits (module_of m g.cells places count roots starts rams)) n → n < (module_of m g.cells places count roots starts rams).nets
 unfolding module_of
 nets_below m g places count roots starts rams o are n h =
     let within : All (IsBelow count) places = places_below places count o in
@@ -245,7 +245,7 @@ nets_below m g places count roots starts rams o are n h =
     (all_join below (flat_map ram_bits rams) _ (rams_below places count within roots starts (ram_cells g.cells) rams are) (parts_below places count within roots starts g.cells)))))) h
 
 pub driven_nets_below : (m : DocModule) (g : Gathered) (places : List Bit) (count : ℕ) (roots : List ClockRoot) (starts : List Tri) (rams : List RamCell) → InOrder 0 places count → AreRams places count g.cells rams
-    → (k : ℕ) (p : Node) → slice_get (nodes_of (module_of m g places count roots starts rams)) k ≡ Some p → (n : ℕ) → Drives p n → n < (module_of m g places count roots starts rams).nets
+    → (k : ℕ) (p : Node) → slice_get (nodes_of (module_of m g.cells places count roots starts rams)) k ≡ Some p → (n : ℕ) → Drives p n → n < (module_of m g.cells places count roots starts rams).nets
 unfolding module_of
 driven_nets_below m g places count roots starts rams o are k p at n d =
     let within : All (IsBelow count) places = places_below places count o in

@@ -25,7 +25,7 @@ use Rattle.net_gather.specs.Cells.{Context}
 use Rattle.net_gather.specs.Gather.{counts_before, gathered}
 use Rattle.net_gather.specs.Laws.{PlacesInOrder, PlacesWithin, TablesFit}
 use Rattle.net_cells.specs.Wires.{wires_from}
-use Rattle.net_fits.specs.Assembly.{carried_cells, module_of}
+use Rattle.net_module.specs.Assembly.{carried_cells, module_of}
 use Rattle.net_fits.specs.Cells.{IsSound}
 use Rattle.net_fits.specs.Driven.{cell_sources}
 use Rattle.net_fits.specs.Rams.{AreRams, is_this, outs_of, ram_cells}
@@ -204,14 +204,14 @@ one_driver m none once =
 -- ---- the module that is made of gathered cells
 
 pub solved_drivers : TablesFit → PlacesWithin → PlacesInOrder → ((items : List Item) → There (spanned.wire_bits items) (spans 0 items)) → (modules : List Interface) (x : Context) (m : DocModule) (places : List Bit) (count : ℕ) (roots : List ClockRoot) (starts : List Tri) (rams : List RamCell)
-    → IsSound modules x m → Solved x m places count → AreRams places count (gathered x m.items).cells rams → HasOneDriver (module_of m (gathered x m.items) places count roots starts rams)
+    → IsSound modules x m → Solved x m places count → AreRams places count (gathered x m.items).cells rams → HasOneDriver (module_of m (gathered x m.items).cells places count roots starts rams)
 unfolding module_of
 solved_drivers tables within in_order there modules x m places count roots starts rams sound s are =
     let g = gathered x m.items in
     let t = links_of g.places g.pairs in
     let ends = ended within in_order there x m places count s in
     let both : All (IsEnd g.places t) (inputs_from 0 m.items ++ cell_sources g.cells) = all_join (IsEnd g.places t) (inputs_from 0 m.items) (cell_sources g.cells) ends.inputs ends.cells in
-    let few : (n : ℕ) → times_driven n (module_of m g places count roots starts rams) ≤ 1 = λ n.
+    let few : (n : ℕ) → times_driven n (module_of m g.cells places count roots starts rams) ≤ 1 = λ n.
     (let wires = filter is_input_wire (wires_from places m.items) in
     let one : how_many (is_this n) _ ≤ 1 = ends_once g.places t places s.solves n (inputs_from 0 m.items ++ cell_sources g.cells) both ends.once in
     let whole = sources_joined n places (inputs_from 0 m.items) (cell_sources g.cells) in
@@ -222,4 +222,4 @@ solved_drivers tables within in_order there modules x m places count roots start
     let cells = cells_counted n places roots starts x.library g.cells (tables x 0 (counts_before m.items) m.items (cells_faultless x m sound.faultless)) in
     let slots = rams_counted n places roots starts count (ram_cells g.cells) rams are in
     omega (arith, one, whole, inputs, split, order, first, cells, slots)) in
-    one_driver (module_of m g places count roots starts rams) refl few
+    one_driver (module_of m g.cells places count roots starts rams) refl few

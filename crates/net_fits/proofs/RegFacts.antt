@@ -26,7 +26,7 @@ use Rattle.net_gather.specs.Gather.{gathered}
 use Rattle.net_gather.specs.Laws.{FitsShape, FitsTable, PinsShort, TablesFit}
 use Rattle.raw_cells.specs.Bits.{bits_at, first_or_zero}
 use Rattle.net_cells.specs.Cells.{reg_of, start_at, value_if}
-use Rattle.net_fits.specs.Assembly.{reg_by, regs_of}
+use Rattle.net_module.specs.Assembly.{reg_by, regs_of}
 use Rattle.net_fits.specs.Cells.{CellsDriveNets, DrivesNets, IsSound, width_of}
 use Rattle.net_fits.proofs.Lists.{all_flat, all_then, each_of, length_map}
 use Rattle.net_fits.proofs.Rows.{RegKnown}

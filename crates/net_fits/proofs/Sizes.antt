@@ -31,7 +31,7 @@ use Rattle.net_gather.specs.Cells.{Context, found_gain, kind_in}
 use Rattle.net_gather.specs.Gather.{counted, counts_before, gained, gathered, item_gain, raw_cells}
 use Rattle.raw_cells.specs.Rows.{found_row}
 use Rattle.net_cells.specs.Wires.{declared, wires_from}
-use Rattle.net_fits.specs.Assembly.{carried_by, carried_cells, comb_by, combs_of, part_by, parts_of, reg_by, regs_of}
+use Rattle.net_module.specs.Assembly.{carried_by, carried_cells, comb_by, combs_of, part_by, parts_of, reg_by, regs_of}
 use Rattle.net_fits.specs.Rams.{EachRamOf, ram_by, ram_cells}
 use Rattle.net_fits.specs.Written.{IsWritten}
 use Rattle.net_fits.proofs.Lists.{length_map}

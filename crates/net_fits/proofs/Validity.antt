@@ -9,13 +9,13 @@ use Rattle.net_core.specs.Valid.{ListsCounted, silent_nodes}
 use Rattle.net_wires.specs.declared.clock.ClockRoot.{ClockRoot}
 use Rattle.net_gather.specs.Cells.{Context}
 use Rattle.net_gather.specs.Gather.{gathered}
-use Rattle.net_fits.specs.Assembly.{combs_of, module_of, regs_of}
+use Rattle.net_module.specs.Assembly.{combs_of, module_of, regs_of}
 use Rattle.net_fits.specs.Rams.{AreRams, ram_cells}
 use Rattle.net_fits.specs.Written.{IsWritten}
 use Rattle.net_fits.proofs.Sizes.{cells_counted, declared_few, items_counted, rams_as_many, shapes_counted, silent_few, wires_few}
 
 module _ (x : Context) (m : DocModule) (places : List Bit) (count : ℕ) (roots : List ClockRoot) (starts : List Tri) (rams : List RamCell) (w : IsWritten m) (are : AreRams places count (gathered x m.items).cells rams) where
-  pub lists_counted : ListsCounted (module_of m (gathered x m.items) places count roots starts rams)
+  pub lists_counted : ListsCounted (module_of m (gathered x m.items).cells places count roots starts rams)
   unfolding module_of
   lists_counted =
       let cs = (gathered x m.items).cells in
@@ -36,7 +36,7 @@ module _ (x : Context) (m : DocModule) (places : List Bit) (count : ℕ) (roots 
         carried = omega (arith, shapes, cells);
       }
 
-  pub few_silent : sum_by (λ (c : RamCell). length c.slots) rams ≤ 2 ^ 30 → silent_nodes (module_of m (gathered x m.items) places count roots starts rams) ≤ 3221225472
+  pub few_silent : sum_by (λ (c : RamCell). length c.slots) rams ≤ 2 ^ 30 → silent_nodes (module_of m (gathered x m.items).cells places count roots starts rams) ≤ 3221225472
   unfolding module_of
   few_silent slots =
       let cs = (gathered x m.items).cells in

@@ -16,7 +16,7 @@ use Rattle.net_gather.specs.FilePins.{in_table}
 use Rattle.net_gather.specs.Gather.{faults_of, gathered}
 use Rattle.net_gather.specs.Laws.{FitsTable}
 use Rattle.raw_cells.specs.Bits.{bits_of, sources_at}
-use Rattle.net_fits.specs.Assembly.{carried_cells, combs_of, parts_of, regs_of}
+use Rattle.net_module.specs.Assembly.{carried_cells, combs_of, parts_of, regs_of}
 use Rattle.net_fits.specs.Written.{IsWritten}
 
 -- ---- pins

@@ -25,7 +25,7 @@ use Rattle.raw_cells.specs.declared.raw.RawPin.{RawPin}
 use Rattle.net_gather.specs.Cells.{Context}
 use Rattle.net_gather.specs.Gather.{gathered}
 use Rattle.raw_cells.specs.Clocks.{clock_at, place_bit}
-use Rattle.net_fits.specs.Assembly.{module_of}
+use Rattle.net_module.specs.Assembly.{module_of}
 use Rattle.net_fits.specs.Driven.{input_sources}
 use Rattle.net_fits.specs.Rams.{driving_sources}
 
@@ -66,5 +66,5 @@ PinClocksCome = (places : List Bit) (roots : List ClockRoot) (pins : List RawPin
 abbrev pub ClocksAreInputs : Type 0
 ClocksAreInputs = (x : Context) (m : DocModule) (places : List Bit) (count : ℕ) (roots : List ClockRoot) (starts : List Tri) (rams : List RamCell)
     → RootsAmong (root_sources m.items (gathered x m.items).cells) roots → All (ComesFrom places roots) (flat_map ram_clocks rams)
-    → (k net : ℕ) (rising : Bool) → slice_get (clocks_of (module_of m (gathered x m.items) places count roots starts rams)) k ≡ Some (clock.Root net rising)
-    → (place : ℕ) × (slice_get (inputs_of (module_of m (gathered x m.items) places count roots starts rams)) place ≡ Some net)
+    → (k net : ℕ) (rising : Bool) → slice_get (clocks_of (module_of m (gathered x m.items).cells places count roots starts rams)) k ≡ Some (clock.Root net rising)
+    → (place : ℕ) × (slice_get (inputs_of (module_of m (gathered x m.items).cells places count roots starts rams)) place ≡ Some net)

@@ -9,7 +9,7 @@ use Rattle.net_core.specs.Ports.{Interface}
 use Rattle.net_wires.specs.declared.clock.ClockRoot.{ClockRoot}
 use Rattle.net_gather.specs.Cells.{Context}
 use Rattle.net_gather.specs.Gather.{gathered}
-use Rattle.net_fits.specs.Assembly.{module_of}
+use Rattle.net_module.specs.Assembly.{module_of}
 use Rattle.net_fits.specs.Cells.{CellsDriveNets, IsSound}
 use Rattle.net_fits.specs.Driven.{IsSolved}
 use Rattle.net_fits.specs.Rams.{AreRams}
@@ -26,4 +26,4 @@ SolvedCells = (x : Context) (m : DocModule) (places : List Bit) (count : ℕ) �
 -- The law: each net has at most one driver.
 abbrev pub SolvedDrivers : Type 0
 SolvedDrivers = (modules : List Interface) (x : Context) (m : DocModule) (places : List Bit) (count : ℕ) (roots : List ClockRoot) (starts : List Tri) (rams : List RamCell) → IsSound modules x m → IsSolved x m places count
-    → AreRams places count (gathered x m.items).cells rams → HasOneDriver (module_of m (gathered x m.items) places count roots starts rams)
+    → AreRams places count (gathered x m.items).cells rams → HasOneDriver (module_of m (gathered x m.items).cells places count roots starts rams)

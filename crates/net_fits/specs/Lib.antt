@@ -1,7 +1,6 @@
 pub mod Written
 pub mod Names
 pub mod Wires
-pub mod Assembly
 pub mod Cells
 pub mod Rams
 pub mod Modules

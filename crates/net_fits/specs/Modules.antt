@@ -15,7 +15,7 @@ use Rattle.net_gather.specs.declared.faces.Faces.{Faces}
 use Rattle.net_gather.specs.Cells.{Context}
 use Rattle.net_gather.specs.Faces.{doc_interfaces, Shows}
 use Rattle.net_gather.specs.Gather.{context, gathered}
-use Rattle.net_fits.specs.Assembly.{module_of}
+use Rattle.net_module.specs.Assembly.{module_of}
 use Rattle.net_fits.specs.Cells.{IsSound, Knows}
 use Rattle.net_fits.specs.Driven.{IsSolved}
 use Rattle.net_fits.specs.Rams.{AreRams}
@@ -27,14 +27,14 @@ ContextKnows = (lib : Library) (ram : List ℕ → Option ℕ) (faces : Faces) (
 -- The law: no two cells of the module have one name.
 abbrev pub CellNamesApart : Type 0
 CellNamesApart = (modules : List Interface) (x : Context) (m : DocModule) (places : List Bit) (count : ℕ) (roots : List ClockRoot) (starts : List Tri) (rams : List RamCell) → IsSound modules x m → AreRams places count (gathered x m.items).cells rams
-    → AreApart (cell_names (module_of m (gathered x m.items) places count roots starts rams))
+    → AreApart (cell_names (module_of m (gathered x m.items).cells places count roots starts rams))
 
 -- The law: each net of the module has a number of the module.
 abbrev pub NetsAreBelow : Type 0
 NetsAreBelow = (x : Context) (m : DocModule) (places : List Bit) (count : ℕ) (roots : List ClockRoot) (starts : List Tri) (rams : List RamCell) → IsSolved x m places count → AreRams places count (gathered x m.items).cells rams
-    → (n : ℕ) → HasNet (all_bits (module_of m (gathered x m.items) places count roots starts rams)) n → n < (module_of m (gathered x m.items) places count roots starts rams).nets
+    → (n : ℕ) → HasNet (all_bits (module_of m (gathered x m.items).cells places count roots starts rams)) n → n < (module_of m (gathered x m.items).cells places count roots starts rams).nets
 
 -- The law: and so does each net that a node drives.
 abbrev pub DrivenNetsAreBelow : Type 0
 DrivenNetsAreBelow = (x : Context) (m : DocModule) (places : List Bit) (count : ℕ) (roots : List ClockRoot) (starts : List Tri) (rams : List RamCell) → IsSolved x m places count → AreRams places count (gathered x m.items).cells rams
-    → (k : ℕ) (p : Node) → slice_get (nodes_of (module_of m (gathered x m.items) places count roots starts rams)) k ≡ Some p → (n : ℕ) → Drives p n → n < (module_of m (gathered x m.items) places count roots starts rams).nets
+    → (k : ℕ) (p : Node) → slice_get (nodes_of (module_of m (gathered x m.items).cells places count roots starts rams)) k ≡ Some p → (n : ℕ) → Drives p n → n < (module_of m (gathered x m.items).cells places count roots starts rams).nets

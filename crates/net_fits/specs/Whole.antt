@@ -16,7 +16,7 @@ use Rattle.net_wires.specs.declared.clock.ClockRoot.{ClockRoot}
 use Rattle.net_gather.specs.Cells.{Context}
 use Rattle.net_gather.specs.Faces.{doc_interface}
 use Rattle.net_gather.specs.Gather.{gathered}
-use Rattle.net_fits.specs.Assembly.{module_of}
+use Rattle.net_module.specs.Assembly.{module_of}
 use Rattle.net_fits.specs.Cells.{IsSound}
 use Rattle.net_fits.specs.Clocks.{ComesFrom, root_sources, RootsAmong}
 use Rattle.net_fits.specs.Driven.{IsSolved}
@@ -34,9 +34,9 @@ abbrev pub BuiltIsValid : Type 0
 BuiltIsValid = (lib : Library) (modules : List Interface) (x : Context) (m : DocModule) (places : List Bit) (count : ℕ) (roots : List ClockRoot) (starts : List Tri) (rams : List RamCell)
     → IsSound modules x m → IsSolved x m places count → AreRams places count (gathered x m.items).cells rams
     → RootsAmong (root_sources m.items (gathered x m.items).cells) roots → All (ComesFrom places roots) (flat_map ram_clocks rams)
-    → Besides lib modules (module_of m (gathered x m.items) places count roots starts rams) → IsValid lib modules (module_of m (gathered x m.items) places count roots starts rams)
+    → Besides lib modules (module_of m (gathered x m.items).cells places count roots starts rams) → IsValid lib modules (module_of m (gathered x m.items).cells places count roots starts rams)
 
 -- The law: it has the ports that the document says.
 abbrev pub BuiltHasPorts : Type 0
 BuiltHasPorts = (x : Context) (m : DocModule) (places : List Bit) (count : ℕ) (roots : List ClockRoot) (starts : List Tri) (rams : List RamCell) → IsSolved x m places count
-    → interface_of (module_of m (gathered x m.items) places count roots starts rams) ≡ doc_interface m
+    → interface_of (module_of m (gathered x m.items).cells places count roots starts rams) ≡ doc_interface m

@@ -2,7 +2,7 @@ use Rattle.std.proofs.Common.{◌≡◌, ◌+◌, ◌≤◌, length, sym, ap, �
 use Rattle.net_wires.specs.Spans.{There, wire_bits}
 use Rattle.net_wires.proofs.Ready.{length_links}
 use Rattle.net_gather.specs.Gather.{counts_before, gathered}
-use Rattle.net_fits.specs.Assembly.{module_of}
+use Rattle.net_module.specs.Assembly.{module_of}
 use Rattle.net_fits.proofs.PortFacts.{ports_alike}
 use Rattle.net_fits.proofs.whole.built_has_ports.Goals as goal
 

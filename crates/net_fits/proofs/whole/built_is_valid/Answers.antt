@@ -2,7 +2,7 @@ use Rattle.std.proofs.Common.{◌≡◌, ◌≤◌, length, ◌∙◌, arith}
 use Rattle.net_wires.proofs.Ready.{length_links}
 use Rattle.net_gather.specs.Gather.{gathered}
 use Rattle.net_gather.specs.Sizes.{size_faults}
-use Rattle.net_fits.specs.Assembly.{module_of}
+use Rattle.net_module.specs.Assembly.{module_of}
 use Rattle.net_fits.proofs.Shapes.{front_none}
 use Rattle.net_fits.proofs.Sizes.{nets_few}
 use Rattle.net_fits.proofs.Validity.{few_silent, lists_counted}

@@ -1,0 +1,4 @@
+pub mod Belows
+pub mod Contexts
+pub mod Built
+pub mod Many

@@ -1,0 +1,5 @@
+pub mod Means
+pub mod Faults
+pub mod Builds
+pub mod Below
+pub mod Steps

@@ -1,0 +1,12 @@
+//! The design that a document means under a library.
+#![tactic(auto)]
+
+mod building;
+mod fault;
+mod limits;
+mod module;
+#[cfg(test)]
+mod tests;
+
+pub use building::build;
+pub use fault::BuildFault;
