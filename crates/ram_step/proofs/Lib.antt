@@ -1,0 +1,11 @@
+mod PinReads
+mod SlotsAt
+mod Places
+mod HitBits
+mod Gathering
+mod Keeping
+mod Stepping
+mod Stated
+mod Starting
+mod Allowed
+mod Samples

@@ -1,0 +1,10 @@
+pub mod Picks
+pub mod Moments
+pub mod Owners
+pub mod Ports
+pub mod Hits
+pub mod Gathers
+pub mod Nexts
+pub mod States
+pub mod Steps
+pub mod Runs
