@@ -6,8 +6,6 @@ mod bodies;
 mod made;
 mod node;
 mod part_nodes;
-#[cfg(test)]
-mod tests;
 
 pub use assembly::{Assembled, assemble};
 pub use made::{Around, Made, made_of};
