@@ -17,8 +17,6 @@ mod marking;
 mod naming;
 mod roots;
 mod sources;
-#[cfg(test)]
-mod tests;
 
 pub use checking::{Checked, check};
 pub use fault::{ModuleFault, ModuleHalt};
