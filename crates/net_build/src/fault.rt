@@ -12,7 +12,7 @@ use std::alloc::Global;
 /// The first rule that a document breaks.
 #[derive(Debug, PartialEq, Eq, Drop)]
 pub struct BuildFault {
-    /// The module in which it is broken; empty for want of memory, as the other names are.
+    /// The module in which it is broken. For want of memory only the code says something.
     pub module: Name,
     /// What breaks it: a wire, a memory or a cell; empty where nothing has a name.
     pub name: Name,

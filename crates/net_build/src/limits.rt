@@ -1,4 +1,4 @@
-//! What has to be known of cells and nodes before they are put together. It holds wherever nothing was wrong so far.
+//! What has to be known of cells and nodes before they are put together; it is tested here.
 ghost use Rattle.std.specs.Prelude.{◌≡◌, ◌<◌, ◌^◌, Bool, true, length};
 ghost use Rattle.net_loops.specs.Loops.{NetsBelow, nodes_in};
 ghost use Rattle.net_module.specs.Nodes.{AreShapesWithin};
