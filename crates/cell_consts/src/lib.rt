@@ -4,8 +4,6 @@
 mod bits;
 mod numbers;
 mod params;
-#[cfg(test)]
-mod tests;
 mod written;
 
 pub use bits::{attr_bits, low_bits, text_bits};

@@ -3,8 +3,6 @@
 
 pub mod kept;
 pub mod laws;
-#[cfg(test)]
-mod tests;
 pub mod written;
 
 pub use kept::{attr_of, attrs_of, bits_of, param_of, params_of};

@@ -6,8 +6,6 @@ mod fault;
 mod lex;
 mod partial;
 mod statement;
-#[cfg(test)]
-mod tests;
 mod text;
 mod token;
 mod words;

@@ -6,8 +6,6 @@ mod mem;
 mod pieces;
 mod reading;
 mod spans;
-#[cfg(test)]
-mod tests;
 mod writing;
 
 pub use fault::{CollectCode, CollectFault};

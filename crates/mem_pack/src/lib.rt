@@ -7,8 +7,6 @@ mod numbers;
 mod params;
 mod pins;
 mod reads;
-#[cfg(test)]
-mod tests;
 mod writes;
 
 pub use cell::pack;

@@ -7,8 +7,6 @@ mod part;
 mod pins;
 mod row;
 mod separate;
-#[cfg(test)]
-mod tests;
 mod whole;
 
 pub use groups::are_groups;

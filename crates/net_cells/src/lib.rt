@@ -5,8 +5,6 @@ mod cells;
 mod clocks;
 mod parts;
 mod starts;
-#[cfg(test)]
-mod tests;
 mod wires;
 
 pub use cells::{carried_of, comb_of, reg_of};

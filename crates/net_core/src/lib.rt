@@ -9,15 +9,11 @@ pub mod mems;
 pub mod modules;
 mod nodes;
 mod order;
-#[cfg(test)]
-mod order_tests;
 pub mod ports;
 pub mod rams;
 mod search;
 pub mod shapes;
 pub mod styles;
-#[cfg(test)]
-mod tests;
 
 pub use bits::{Bit, Clock, Edge, Event};
 pub use cells::{Carried, Comb, CombKind, FfKind, Pin, Reg};

@@ -16,8 +16,6 @@ pub mod laws;
 mod limits;
 mod open_pin;
 mod sizes;
-#[cfg(test)]
-mod tests;
 
 pub use faces::Faces;
 pub use fault::{Fault, Halt};

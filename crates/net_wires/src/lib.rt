@@ -16,8 +16,6 @@ mod piece;
 mod reading;
 mod settling;
 mod source;
-#[cfg(test)]
-mod tests;
 
 pub use breach::{Breach, BuildCode, Stop, broken};
 pub use clock::{ClockRoot, Inverter};

@@ -91,14 +91,3 @@ pub fn names_of<'a>(alloc: Global, items: &'a [Item]) -> Result<Names<'a>, Memor
     let names = with_wires(alloc, items)?;
     Ok(names)
 }
-
-/// One wire, for tests.
-#[cfg(test)]
-pub fn one_wire<'a>(alloc: Global, name: &'a [u8], span: Span) -> Result<Names<'a>, Memory>
-    requires { span.base + span.width ≤ 4294967295 }
-    ensures { IfOk result (There 4294967295) }
-{
-    let mut names = Names::new(alloc);
-    names.add(name, span)?;
-    Ok(names)
-}

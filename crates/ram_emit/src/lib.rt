@@ -9,8 +9,6 @@ pub mod laws;
 mod placing;
 pub mod plain;
 mod ports;
-#[cfg(test)]
-mod tests;
 
 pub use cell::{PlainCell, plain_cell};
 pub use placing::{place_plain, put_in_place};

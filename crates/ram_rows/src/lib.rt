@@ -6,8 +6,6 @@ pub mod options;
 pub mod pins;
 pub mod row;
 pub mod slots;
-#[cfg(test)]
-mod tests;
 
 pub use names::slot_name;
 pub use options::{Chosen, chosen_by};

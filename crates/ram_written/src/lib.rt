@@ -4,7 +4,5 @@
 pub mod laws;
 mod params;
 mod slots;
-#[cfg(test)]
-mod tests;
 
 pub use params::ram_params;

@@ -8,8 +8,6 @@ pub mod ram_cell;
 mod raw;
 mod row;
 mod shaped;
-#[cfg(test)]
-mod tests;
 pub mod tied;
 
 pub use clocks::clock_at;

@@ -9,8 +9,6 @@ mod lines;
 mod numeral;
 mod print;
 mod string;
-#[cfg(test)]
-mod tests;
 pub mod token;
 
 pub use laws::{printed_line_reads_back, read_tokens_can_be_printed};

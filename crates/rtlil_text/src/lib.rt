@@ -17,6 +17,3 @@ pub use doc::{
 pub use fault::{TextCode, TextFault};
 pub use rtlil_lex::Digit;
 pub use text::read_doc;
-
-#[cfg(test)]
-mod tests;
