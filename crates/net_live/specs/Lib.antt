@@ -1,0 +1,4 @@
+pub mod Driving
+pub mod Fitting
+pub mod Slots
+pub mod Sound
