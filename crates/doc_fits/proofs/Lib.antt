@@ -1,0 +1,5 @@
+mod Deciding
+mod Taking
+mod Signals
+mod Walking
+mod Documents
