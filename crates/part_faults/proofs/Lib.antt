@@ -1,0 +1,5 @@
+mod Marking
+mod Numbering
+mod Wholes
+mod Writing
+mod Finding
