@@ -1,0 +1,5 @@
+pub mod Adding
+pub mod Fitting
+pub mod Joining
+pub mod Longer
+pub mod Reading

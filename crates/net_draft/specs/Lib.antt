@@ -1,0 +1,11 @@
+pub mod Homes
+pub mod Naming
+pub mod Taking
+pub mod Rows
+pub mod Rams
+pub mod Starts
+pub mod Signals
+pub mod Connects
+pub mod Wires
+pub mod Cells
+pub mod Drafts
