@@ -1,0 +1,6 @@
+//! From a design back to a document that means it.
+#![tactic(auto)]
+
+mod writing;
+
+pub use writing::unbuild;

@@ -1,0 +1,8 @@
+//! The design that a document means, with its memories whole.
+#![tactic(auto)]
+
+mod fault;
+mod whole;
+
+pub use fault::WholeFault;
+pub use whole::whole_design;
