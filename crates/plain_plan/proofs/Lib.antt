@@ -1,0 +1,4 @@
+pub mod Gathered
+pub mod Roomy
+pub mod Scored
+pub mod Walked
