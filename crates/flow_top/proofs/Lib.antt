@@ -1,5 +1,5 @@
 pub mod FmtLemmas
+pub mod LibraryFaults
 pub mod OutcomeLemmas
-pub mod Repeating
+pub mod StopLemmas
 pub mod TextFaults
-pub mod WordLemmas

@@ -1,35 +1,35 @@
 -- The outcome of map at each place where it may end.
-use Rattle.std.proofs.Common.{◌≡◌, ℕ, ◌<◌, ◌≤◌, Bool, true, false, List, [], ◌∷◌, length, Some, None, Option, is_some, ◌⊎◌, arith, inl, inr, refl, subst, sym, ◌∙◌, ap}
+use Rattle.std.proofs.Common.{◌≡◌, ℕ, ◌<◌, ◌≤◌, List, [], ◌∷◌, length, Some, None, Option, ◌⊎◌, arith, inl, inr, refl, subst, sym, ◌∙◌, ap}
 use Rattle.std.specs.FinMap.{get}
 use Rattle.flow_io.specs.Files.{Files, Tells, HasAtLeast}
 use Rattle.flow_io.specs.Causes.{Rose}
 use Rattle.flow_io.specs.declared.desk.DeskFault.{DeskFault}
 use Rattle.flow_io.specs.declared.desk.DeskFault.TheVariants as faults
 use Rattle.flow_top.specs.Asked.{MapFiles, Map}
-use Rattle.flow_top.specs.DesignForm.{first_design}
-use Rattle.flow_top.specs.LibraryForm.{first_library}
-use Rattle.flow_top.specs.MappedForm.{fits}
-use Rattle.flow_top.specs.Outcome.{Outcome, Look, MapWrites, HasLongFile, HasLimitCause, HasRefusalCause}
+use Rattle.rtlil_text.specs.declared.doc.Doc.{Doc}
+use Rattle.rtlil_text.specs.Reads.{Reads}
+use Rattle.rtlil_text.specs.Text.{IsWithinLimits}
+use Rattle.lib_core.specs.declared.library.Library.{Library as Lib}
+use Rattle.lib_read.specs.Reads.{LibReads}
+use Rattle.map_flow.specs.Maps.{IsRefused}
+use Rattle.map_flow.specs.declared.refusal.MapRefusal.{MapRefusal}
+use Rattle.map_flow.specs.declared.refusal.MapRefusal.TheVariants as refusal
+use Rattle.flow_top.specs.Outcome.{Outcome, Look, MapReads, MapWrites, MapStops, MapDesignIsNone, MapLibraryIsNone, MapRefuses, MapFits, HasLongFile, HasLongCause, HasText, HasLimitCause, HasRefusalCause}
+use Rattle.flow_top.specs.Refusing.{map_status}
 use Rattle.flow_top.specs.Preparing.{Stopped, Prepared}
 use Rattle.flow_top.specs.RefusalLine.{Refused, LineLeft, refusal_line}
 use Rattle.flow_top.specs.Statuses.{status_of_write}
 use Rattle.flow_top.specs.Texts.{put_all}
 use Rattle.flow_top.specs.WriteStops.{WriteStops}
-use Rattle.flow_top.specs.declared.mapping.Made.{Made}
+use Rattle.map_flow.specs.declared.map.Made.{Made}
 use Rattle.flow_top.specs.declared.status.Counted.{Counted}
 use Rattle.flow_top.specs.declared.status.DesignCode.{DesignCode}
-use Rattle.flow_top.specs.declared.status.LibCode.{LibCode}
+use Rattle.lib_tree.specs.declared.fault.LibCode.{LibCode}
 use Rattle.flow_top.specs.declared.status.Status.{Status}
 use Rattle.flow_top.specs.declared.status.Status.TheVariants.{Ok, Usage, ReadFault, WriteFault, Design, Library, NoFit, Limit, Memory}
 
 pub same_Some : {A : Type 0} (a b : A) → Some a ≡ Some b → a ≡ b
 same_Some a b e = cc
-
-some_none : {A : Type 0} (a : A) (o : Option A) → o ≡ None → o ≡ Some a → ⊥
-some_none a o e f = cc
-
-true_false : (b : Bool) → b ≡ true → b ≡ false → ⊥
-true_false b e f = cc
 
 -- what was read is what the file holds
 pub told_is : (told : Option Files) (files : Files) (name read held : List ℕ) → told ≡ Some files → Tells told name read → get files name ≡ Some held → held ≡ read
@@ -63,14 +63,60 @@ not_long asked told files design library is dt lt ds ls long =
     ]
 
 -- nor where the design was read and is none
-not_long_design : (asked : MapFiles) (told : Option Files) (files : Files) (design : List ℕ) → told ≡ Some files → Tells told asked.design design → length design ≤ 16777216 → first_design design ≡ None → HasLongFile asked files → ⊥
-not_long_design asked told files design is dt ds none long =
+not_long_design : (asked : MapFiles) (told : Option Files) (files : Files) (design : List ℕ) → told ≡ Some files → Tells told asked.design design → length design ≤ 16777216 → ((doc : Doc) → Reads design doc → IsWithinLimits design doc → ⊥) → HasLongFile asked files → ⊥
+not_long_design asked told files design is dt ds unread long =
     elim long.long [
       | inl l ↦ short_read told files asked.design design long.design is dt ds long.design_there l
-      | inr (other, (there, (l, first))) ↦
+      | inr (other, (there, (l, text))) ↦
           let e : long.design ≡ design = told_is told files asked.design design long.design is dt long.design_there in
-          let no : is_some (first_design long.design) ≡ false = ap (λ d. is_some (first_design d)) e ∙ ap is_some none in
-          true_false (is_some (first_design long.design)) first no
+          let reads : Reads design text.doc = subst (λ d. Reads d text.doc) e text.reads in
+          let within : IsWithinLimits design text.doc = subst (λ d. IsWithinLimits d text.doc) e text.within in
+          unread text.doc reads within
+    ]
+
+-- where both files were read none is too long
+not_long_read : (asked : MapFiles) (told : Option Files) (files : Files) → told ≡ Some files → MapReads asked told → HasLongFile asked files → ⊥
+not_long_read asked told files is read long =
+    not_long asked told files read.design read.library is read.design_told read.library_told read.design_short read.library_short long
+
+-- nor where what was read stopped the command
+stops_not_long : (asked : MapFiles) (told : Option Files) (files : Files) (status : Status) → told ≡ Some files → MapStops asked told status → HasLongFile asked files → ⊥
+stops_not_long asked told files status is stops long =
+    elim stops [
+      | inl none ↦ not_long_design asked told files none.design is none.design_told none.design_short none.tells.is_none.unread long
+      | inr (inl none) ↦ not_long asked told files none.design none.library is none.design_told none.library_told none.design_short none.library_short long
+      | inr (inr refuses) ↦ not_long_read asked told files is refuses.read long
+    ]
+
+-- where nothing is in the way, what was read does not stop the command but for want of memory
+free_of_design : (asked : MapFiles) (told : Option Files) (files : Files) (status : Status) → told ≡ Some files → MapFits asked files → MapDesignIsNone asked told status → ⊥
+free_of_design asked told files status is fits none =
+    let e : fits.design ≡ none.design = told_is told files asked.design none.design fits.design is none.design_told fits.design_there in
+    let cannot = none.tells.is_none.unread fits.doc in
+    cannot (subst (λ d. Reads d fits.doc) e fits.reads) (subst (λ d. IsWithinLimits d fits.doc) e fits.within)
+
+free_of_library : (asked : MapFiles) (told : Option Files) (files : Files) (status : Status) → told ≡ Some files → MapFits asked files → MapLibraryIsNone asked told status → ⊥
+free_of_library asked told files status is fits none =
+    let e : fits.library ≡ none.library = told_is told files asked.library none.library fits.library is none.library_told fits.library_there in
+    let cannot = none.tells.is_none.unread fits.lib in
+    cannot (subst (λ d. LibReads d fits.lib) e fits.library_reads) fits.library_within
+
+refusal_is_want : (asked : MapFiles) (told : Option Files) (files : Files) (status : Status) → told ≡ Some files → MapFits asked files → MapRefuses asked told status → status ≡ Memory
+refusal_is_want asked told files status is fits refuses =
+    let read = refuses.read in
+    let d : fits.design ≡ read.design = told_is told files asked.design read.design fits.design is read.design_told fits.design_there in
+    let l : fits.library ≡ read.library = told_is told files asked.library read.library fits.library is read.library_told fits.library_there in
+    let reads : Reads fits.design read.doc = subst (λ b. Reads b read.doc) (sym d) read.reads in
+    let library_reads : LibReads fits.library read.lib = subst (λ b. LibReads b read.lib) (sym l) read.library_reads in
+    let want : refuses.tells.cause ≡ refusal.Memory = fits.unrefused read.doc read.lib refuses.tells.cause reads library_reads refuses.tells.refused in
+    refuses.tells.status_is ∙ ap map_status want
+
+stops_for_want : (asked : MapFiles) (told : Option Files) (files : Files) (status : Status) → told ≡ Some files → MapFits asked files → MapStops asked told status → status ≡ Memory
+stops_for_want asked told files status is fits stops =
+    elim stops [
+      | inl none ↦ absurd (free_of_design asked told files status is fits none)
+      | inr (inl none) ↦ absurd (free_of_library asked told files status is fits none)
+      | inr (inr refuses) ↦ refusal_is_want asked told files status is fits refuses
     ]
 
 -- want of memory
@@ -100,77 +146,83 @@ outcome_read_fault asked before after stay rose =
       complete = λ files free. absurd (free.reads rose);
     }
 
--- a file that is too long
+-- a file that is too long is in the way
+long_in_the_way : (asked : MapFiles) (told : Option Files) (files : Files) (counts : Counted) (seen : ℕ) → told ≡ Some files → MapFits asked files → HasLongCause (Map asked) told counts seen → ⊥
+long_in_the_way asked told files counts seen is fits cause =
+    elim cause.1.1.1.0 [
+      | inl e ↦ too_long told files asked.design fits.design seen is fits.design_there fits.design_short cause.1.0 (subst (λ n. HasAtLeast told n seen) e cause.1.1.1.1)
+      | inr e ↦ too_long told files asked.library fits.library seen is fits.library_there fits.library_short cause.1.0 (subst (λ n. HasAtLeast told n seen) e cause.1.1.1.1)
+    ]
+
+limit_is_no_want : (counts : Counted) (seen : ℕ) → Limit counts seen ≡ Memory → ⊥
+limit_is_no_want counts seen e = cc
+
+design_is_no_want : (inside name : List ℕ) (line : ℕ) (code : DesignCode) → Design inside name line code ≡ Memory → ⊥
+design_is_no_want inside name line code e = cc
+
+library_is_no_want : (line : ℕ) (code : LibCode) → Library line code ≡ Memory → ⊥
+library_is_no_want line code e = cc
+
+no_fit_is_no_want : (inside memory : List ℕ) → NoFit inside memory ≡ Memory → ⊥
+no_fit_is_no_want inside memory e = cc
+
+-- a limit
 outcome_limit : (asked : MapFiles) (before after : Look) (counts : Counted) (seen : ℕ) → HasLimitCause (Map asked) before.files (Limit counts seen) → LineLeft before.files after.files asked.report (refusal_line (Limit counts seen)) before.writes after.writes → Outcome (Map asked) before after (Limit counts seen)
-outcome_limit asked before after counts seen stopped line =
+outcome_limit asked before after counts seen cause line =
     record {
       understood = λ e. cc;
       read_fault = λ e. cc;
       write_fault = λ e. cc;
-      limit = stopped;
+      limit = cause;
       long_file = λ files told long. tt;
       refusal = tt;
       files = line;
-      complete = λ files free. elim stopped.1.1.1.0 [
-        | inl e ↦ absurd (too_long before.files files asked.design free.fits.design seen free.told free.fits.design_there free.fits.design_short stopped.1.0 (subst (λ n. HasAtLeast before.files n seen) e stopped.1.1.1.1))
-        | inr e ↦ absurd (too_long before.files files asked.library free.fits.library seen free.told free.fits.library_there free.fits.library_short stopped.1.0 (subst (λ n. HasAtLeast before.files n seen) e stopped.1.1.1.1))
+      complete = λ files free. elim cause [
+        | inl long ↦ absurd (long_in_the_way asked before.files files counts seen free.told free.fits long)
+        | inr stops ↦ absurd (limit_is_no_want counts seen (stops_for_want asked before.files files (Limit counts seen) free.told free.fits stops))
       ];
     }
 
--- a design that is none
+-- a design that is refused
 outcome_design : (asked : MapFiles) (before after : Look) (inside name : List ℕ) (line_number : ℕ) (code : DesignCode) → HasRefusalCause (Map asked) before.files (Design inside name line_number code) → LineLeft before.files after.files asked.report (refusal_line (Design inside name line_number code)) before.writes after.writes → Outcome (Map asked) before after (Design inside name line_number code)
-outcome_design asked before after inside name line_number code stopped line =
-    let cause = stopped.0 in
+outcome_design asked before after inside name line_number code cause line =
     record {
       understood = λ e. cc;
       read_fault = λ e. cc;
       write_fault = λ e. cc;
       limit = tt;
-      long_file = λ files told long. absurd (not_long_design asked before.files files cause.design told cause.design_told cause.design_short cause.is_none long);
-      refusal = stopped;
+      long_file = λ files told long. absurd (stops_not_long asked before.files files (Design inside name line_number code) told cause long);
+      refusal = cause;
       files = line;
-      complete = λ files free.
-          let e : free.fits.design ≡ cause.design = told_is before.files files asked.design cause.design free.fits.design free.told cause.design_told free.fits.design_there in
-          absurd (some_none free.fits.sizes (first_design free.fits.design) (ap first_design e ∙ cause.is_none) free.fits.is_design);
+      complete = λ files free. absurd (design_is_no_want inside name line_number code (stops_for_want asked before.files files (Design inside name line_number code) free.told free.fits cause));
     }
 
 -- a library that is none
 outcome_library : (asked : MapFiles) (before after : Look) (line_number : ℕ) (code : LibCode) → HasRefusalCause (Map asked) before.files (Library line_number code) → LineLeft before.files after.files asked.report (refusal_line (Library line_number code)) before.writes after.writes → Outcome (Map asked) before after (Library line_number code)
-outcome_library asked before after line_number code stopped line =
-    let cause = stopped.0 in
+outcome_library asked before after line_number code cause line =
     record {
       understood = λ e. cc;
       read_fault = λ e. cc;
       write_fault = λ e. cc;
       limit = tt;
-      long_file = λ files told long. absurd (not_long asked before.files files cause.design cause.library told cause.design_told cause.library_told cause.design_short cause.library_short long);
-      refusal = stopped;
+      long_file = λ files told long. absurd (stops_not_long asked before.files files (Library line_number code) told cause long);
+      refusal = cause;
       files = line;
-      complete = λ files free.
-          let e : free.fits.library ≡ cause.library = told_is before.files files asked.library cause.library free.fits.library free.told cause.library_told free.fits.library_there in
-          absurd (some_none free.fits.ram (first_library free.fits.library) (ap first_library e ∙ cause.is_none) free.fits.is_library);
+      complete = λ files free. absurd (library_is_no_want line_number code (stops_for_want asked before.files files (Library line_number code) free.told free.fits cause));
     }
 
 -- a memory that fits nothing
 outcome_no_fit : (asked : MapFiles) (before after : Look) (inside memory : List ℕ) → HasRefusalCause (Map asked) before.files (NoFit inside memory) → LineLeft before.files after.files asked.report (refusal_line (NoFit inside memory)) before.writes after.writes → Outcome (Map asked) before after (NoFit inside memory)
-outcome_no_fit asked before after inside memory stopped line =
-    let cause = stopped in
-    let none = cause.has_no_fit in
+outcome_no_fit asked before after inside memory cause line =
     record {
       understood = λ e. cc;
       read_fault = λ e. cc;
       write_fault = λ e. cc;
       limit = tt;
-      long_file = λ files told long. absurd (not_long asked before.files files cause.design cause.library told cause.design_told cause.library_told cause.design_short cause.library_short long);
-      refusal = stopped;
+      long_file = λ files told long. absurd (stops_not_long asked before.files files (NoFit inside memory) told cause long);
+      refusal = cause;
       files = line;
-      complete = λ files free.
-          let d : free.fits.design ≡ cause.design = told_is before.files files asked.design cause.design free.fits.design free.told cause.design_told free.fits.design_there in
-          let l : free.fits.library ≡ cause.library = told_is before.files files asked.library cause.library free.fits.library free.told cause.library_told free.fits.library_there in
-          let sizes : free.fits.sizes ≡ none.sizes = same_Some free.fits.sizes none.sizes (sym free.fits.is_design ∙ ap first_design d ∙ none.is_design) in
-          let ram : free.fits.ram ≡ none.ram = same_Some free.fits.ram none.ram (sym free.fits.is_library ∙ ap first_library l ∙ none.is_library) in
-          let same : fits free.fits.sizes free.fits.ram ≡ fits none.sizes none.ram = ap (λ s. fits s free.fits.ram) sizes ∙ ap (λ r. fits none.sizes r) ram in
-          absurd (true_false (fits free.fits.sizes free.fits.ram) free.fits.suits (same ∙ none.unsuited));
+      complete = λ files free. absurd (no_fit_is_no_want inside memory (stops_for_want asked before.files files (NoFit inside memory) free.told free.fits cause));
     }
 
 -- the line is left where a write failed since an earlier count
@@ -212,20 +264,7 @@ outcome_stopped asked before after reads writes (NoFit inside memory) result sto
 
 -- what map writes of what it prepared
 pub map_writes : (asked : MapFiles) (told : Option Files) (made : Made) → Prepared asked told made → MapWrites asked told ((asked.inferred, made.inferred.items) ∷ (asked.netlist, made.netlist.items) ∷ (asked.report, made.report.items) ∷ [])
-map_writes asked told made prepared =
-    record {
-      design = prepared.design;
-      library = prepared.library;
-      inferred = made.inferred.items;
-      netlist = made.netlist.items;
-      report = made.report.items;
-      design_told = prepared.design_told;
-      library_told = prepared.library_told;
-      design_short = prepared.design_short;
-      library_short = prepared.library_short;
-      meets = prepared.makes;
-      texts_are = refl;
-    }
+map_writes asked told made prepared = record { read = prepared.read; made = made; maps = prepared.maps; texts_are = refl }
 
 -- all texts are written
 pub outcome_written : (asked : MapFiles) (before after : Look) (texts : List (List ℕ × List ℕ)) → MapWrites asked before.files texts → after.files ≡ put_all before.files texts → Outcome (Map asked) before after Ok
@@ -235,7 +274,7 @@ outcome_written asked before after texts may written =
       read_fault = λ e. cc;
       write_fault = λ e. cc;
       limit = tt;
-      long_file = λ files told long. absurd (not_long asked before.files files may.design may.library told may.design_told may.library_told may.design_short may.library_short long);
+      long_file = λ files told long. absurd (not_long_read asked before.files files told may.read long);
       refusal = tt;
       files = (texts, (may, written));
       complete = λ files free. tt;
@@ -249,7 +288,7 @@ outcome_broken asked before after writes texts faults.Failed later may stops =
       read_fault = λ e. cc;
       write_fault = λ e. omega (arith, later, stops.0);
       limit = tt;
-      long_file = λ files told long. absurd (not_long asked before.files files may.design may.library told may.design_told may.library_told may.design_short may.library_short long);
+      long_file = λ files told long. absurd (not_long_read asked before.files files told may.read long);
       refusal = tt;
       files = (texts, (may, stops.1));
       complete = λ files free. absurd (free.writes (omega (arith, later, stops.0)));

@@ -1,5 +1,5 @@
 -- How a command may end, and what it leaves.
-use Rattle.std.specs.Prelude.{◌≡◌, ◌≢◌, ℕ, ◌<◌, ◌≤◌, true, List, [], ◌∷◌, length, ⊤, ◌⊎◌, Some, None, is_some, Option}
+use Rattle.std.specs.Prelude.{◌≡◌, ◌≢◌, ℕ, ◌<◌, ◌≤◌, List, [], ◌∷◌, length, ⊤, ◌⊎◌, Some, None, Option}
 use Rattle.std.specs.FinMap.{get}
 use Rattle.flow_io.specs.Files.{Files, Tells, HasAtLeast}
 use Rattle.flow_io.specs.Causes.{Rose}
@@ -7,20 +7,20 @@ use Rattle.rtlil_print.specs.Print.{printed}
 use Rattle.rtlil_text.specs.declared.doc.Doc.{Doc}
 use Rattle.rtlil_text.specs.Reads.{Reads}
 use Rattle.rtlil_text.specs.Text.{IsWithinLimits}
+use Rattle.lib_core.specs.declared.library.Library.{Library as Lib}
+use Rattle.lib_read.specs.Reads.{LibReads}
+use Rattle.lib_read.specs.Limits.{IsWithinLimits as IsTaken}
+use Rattle.map_flow.specs.Maps.{IsMapped, IsRefused}
+use Rattle.map_flow.specs.declared.map.Made.{Made}
+use Rattle.map_flow.specs.declared.refusal.MapRefusal.{MapRefusal}
+use Rattle.map_flow.specs.declared.refusal.MapRefusal.TheVariants as refusal
 use Rattle.flow_top.specs.Asked.{Asked, MapFiles, Map, FmtFiles, Fmt}
 use Rattle.flow_top.specs.Reading.{TellsFault}
 use Rattle.flow_top.specs.declared.status.Counted.{Counted}
-use Rattle.flow_top.specs.DesignForm.{first_design, design_word}
-use Rattle.flow_top.specs.LibraryForm.{first_library}
-use Rattle.flow_top.specs.MappedForm.{fits}
-use Rattle.flow_top.specs.Mapping.{MapMeets, HasNoFit}
+use Rattle.flow_top.specs.Refusing.{TellsLibraryFault, TellsRefusal}
 use Rattle.flow_top.specs.RefusalLine.{refusal_line, LineLeft}
 use Rattle.flow_top.specs.Texts.{put_all, WroteSome, BrokeOff}
-use Rattle.flow_top.specs.declared.design_form.Sizes.{Sizes}
-use Rattle.flow_top.specs.declared.library_form.Ram.{Ram}
 use Rattle.flow_top.specs.declared.status.Counted.TheVariants as counted
-use Rattle.flow_top.specs.declared.status.DesignCode.TheVariants as design_code
-use Rattle.flow_top.specs.declared.status.LibCode.TheVariants as library_code
 use Rattle.flow_top.specs.declared.status.Status.{Status}
 use Rattle.flow_top.specs.declared.status.Status.TheVariants.{Ok, Usage, ReadFault, WriteFault, Design, Library, NoFit, Limit, Memory}
 
@@ -33,19 +33,25 @@ pub record Look : Type 0 where
 abbrev pub look_of : {D : Type 0} → (D → Option Files) → (D → ℕ) → (D → ℕ) → D → Look
 look_of files reads writes desk = record { files = files desk; reads = reads desk; writes = writes desk }
 
--- what map writes: the texts that it makes of the design and the library that it read
-pub record MapWrites (asked : MapFiles) (told : Option Files) (texts : List (List ℕ × List ℕ)) : Type 0 where
+-- what map reads: the document of the design's file, and the library
+pub record MapReads (asked : MapFiles) (told : Option Files) : Type 0 where
   pub design : List ℕ
   pub library : List ℕ
-  pub inferred : List ℕ
-  pub netlist : List ℕ
-  pub report : List ℕ
+  pub doc : Doc
+  pub lib : Lib
   pub design_told : Tells told asked.design design
   pub library_told : Tells told asked.library library
   pub design_short : length design ≤ 16777216
   pub library_short : length library ≤ 16777216
-  pub meets : MapMeets design library inferred netlist report
-  pub texts_are : texts ≡ (asked.inferred, inferred) ∷ (asked.netlist, netlist) ∷ (asked.report, report) ∷ []
+  pub reads : Reads design doc
+  pub library_reads : LibReads library lib
+
+-- what map writes: the texts of the mapped design
+pub record MapWrites (asked : MapFiles) (told : Option Files) (texts : List (List ℕ × List ℕ)) : Type 0 where
+  pub read : MapReads asked told
+  pub made : Made
+  pub maps : IsMapped read.doc read.lib made
+  pub texts_are : texts ≡ (asked.inferred, made.inferred.items) ∷ (asked.netlist, made.netlist.items) ∷ (asked.report, made.report.items) ∷ []
 
 -- what fmt writes: the printed text of the document that the file reads as
 pub record FmtWrites (asked : FmtFiles) (told : Option Files) (texts : List (List ℕ × List ℕ)) : Type 0 where
@@ -77,48 +83,45 @@ pub record FmtReadsNone (asked : FmtFiles) (told : Option Files) (status : Statu
   pub design_short : length design ≤ 16777216
   pub tells : TellsFault design status
 
--- a limit is told of a file that passes it, or of a text
+-- the text of the design that map reads is none, and the status tells its first fault
+pub record MapDesignIsNone (asked : MapFiles) (told : Option Files) (status : Status) : Type 0 where
+  pub design : List ℕ
+  pub design_told : Tells told asked.design design
+  pub design_short : length design ≤ 16777216
+  pub tells : TellsFault design status
+
+-- the text of the library that map reads is none, its design's is one, and the status tells the library's first fault
+pub record MapLibraryIsNone (asked : MapFiles) (told : Option Files) (status : Status) : Type 0 where
+  pub design : List ℕ
+  pub library : List ℕ
+  pub doc : Doc
+  pub design_told : Tells told asked.design design
+  pub library_told : Tells told asked.library library
+  pub design_short : length design ≤ 16777216
+  pub library_short : length library ≤ 16777216
+  pub reads : Reads design doc
+  pub tells : TellsLibraryFault library status
+
+-- the design is not mapped, and the status tells why
+pub record MapRefuses (asked : MapFiles) (told : Option Files) (status : Status) : Type 0 where
+  pub read : MapReads asked told
+  pub tells : TellsRefusal read.doc read.lib status
+
+-- why what map read stops it
+abbrev pub MapStops : MapFiles → Option Files → Status → Type 0
+MapStops asked told status = MapDesignIsNone asked told status ⊎ (MapLibraryIsNone asked told status ⊎ MapRefuses asked told status)
+
+-- a limit is told of a file that passes it, or of what was read
 abbrev pub HasLimitCause : Asked → Option Files → Status → Type 0
-HasLimitCause (Map asked) told (Limit counts seen) = HasLongCause (Map asked) told counts seen
+HasLimitCause (Map asked) told (Limit counts seen) = HasLongCause (Map asked) told counts seen ⊎ MapStops asked told (Limit counts seen)
 HasLimitCause (Fmt asked) told (Limit counts seen) = HasLongCause (Fmt asked) told counts seen ⊎ FmtReadsNone asked told (Limit counts seen)
 HasLimitCause asked told other = ⊤
 
--- the design that a command reads is none
-pub record MapDesignIsNone (asked : MapFiles) (told : Option Files) : Type 0 where
-  pub design : List ℕ
-  pub design_told : Tells told asked.design design
-  pub design_short : length design ≤ 16777216
-  pub is_none : first_design design ≡ None
-
--- the library that a command reads is none, and its design is one
-pub record MapLibraryIsNone (asked : MapFiles) (told : Option Files) : Type 0 where
-  pub design : List ℕ
-  pub library : List ℕ
-  pub sizes : Sizes
-  pub design_told : Tells told asked.design design
-  pub library_told : Tells told asked.library library
-  pub design_short : length design ≤ 16777216
-  pub library_short : length library ≤ 16777216
-  pub is_design : first_design design ≡ Some sizes
-  pub is_none : first_library library ≡ None
-
--- the memory of the design fits no RAM of the library, and these are its names
-pub record MapFitsNothing (asked : MapFiles) (told : Option Files) (inside memory : List ℕ) : Type 0 where
-  pub design : List ℕ
-  pub library : List ℕ
-  pub design_told : Tells told asked.design design
-  pub library_told : Tells told asked.library library
-  pub design_short : length design ≤ 16777216
-  pub library_short : length library ≤ 16777216
-  pub has_no_fit : HasNoFit design library
-  pub module_is : inside ≡ design_word design 109
-  pub memory_is : memory ≡ design_word design 111
-
 -- a refusal has its cause in what was read
 abbrev pub HasRefusalCause : Asked → Option Files → Status → Type 0
-HasRefusalCause (Map asked) told (Design inside name line code) = MapDesignIsNone asked told × ((inside ≡ []) × ((name ≡ []) × ((line ≡ 0) × (code ≡ design_code.NotYet))))
-HasRefusalCause (Map asked) told (Library line code) = MapLibraryIsNone asked told × ((line ≡ 0) × (code ≡ library_code.NotYet))
-HasRefusalCause (Map asked) told (NoFit inside memory) = MapFitsNothing asked told inside memory
+HasRefusalCause (Map asked) told (Design inside name line code) = MapStops asked told (Design inside name line code)
+HasRefusalCause (Map asked) told (Library line code) = MapStops asked told (Library line code)
+HasRefusalCause (Map asked) told (NoFit inside memory) = MapStops asked told (NoFit inside memory)
 HasRefusalCause (Fmt asked) told (Design inside name line code) = FmtReadsNone asked told (Design inside name line code)
 HasRefusalCause (Fmt asked) told (Library line code) = ⊥
 HasRefusalCause (Fmt asked) told (NoFit inside memory) = ⊥
@@ -142,15 +145,18 @@ FilesAfter asked before after refusal = LeavesLine asked before after refusal
 pub record MapFits (asked : MapFiles) (files : Files) : Type 0 where
   pub design : List ℕ
   pub library : List ℕ
-  pub sizes : Sizes
-  pub ram : Ram
+  pub doc : Doc
+  pub lib : Lib
   pub design_there : get files asked.design ≡ Some design
   pub library_there : get files asked.library ≡ Some library
   pub design_short : length design ≤ 16777216
   pub library_short : length library ≤ 16777216
-  pub is_design : first_design design ≡ Some sizes
-  pub is_library : first_library library ≡ Some ram
-  pub suits : fits sizes ram ≡ true
+  pub reads : Reads design doc
+  pub within : IsWithinLimits design doc
+  pub library_reads : LibReads library lib
+  pub library_within : IsTaken lib
+  -- nothing refuses what the files read as
+  pub unrefused : (doc : Doc) (lib : Lib) (r : MapRefusal) → Reads design doc → LibReads library lib → IsRefused doc lib r → r ≡ refusal.Memory
 
 pub record FmtFits (asked : FmtFiles) (files : Files) : Type 0 where
   pub design : List ℕ
@@ -186,10 +192,16 @@ IsStop ReadFault = ⊤
 IsStop Memory = ⊤
 IsStop other = ⊥
 
+-- the bytes read as a document within the limits
+pub record HasText (bytes : List ℕ) : Type 0 where
+  pub doc : Doc
+  pub reads : Reads bytes doc
+  pub within : IsWithinLimits bytes doc
+
 pub record HasLongFile (asked : MapFiles) (files : Files) : Type 0 where
   pub design : List ℕ
   pub design_there : get files asked.design ≡ Some design
-  pub long : (16777216 < length design) ⊎ ((library : List ℕ) × ((get files asked.library ≡ Some library) × ((16777216 < length library) × (is_some (first_design design) ≡ true))))
+  pub long : (16777216 < length design) ⊎ ((library : List ℕ) × ((get files asked.library ≡ Some library) × ((16777216 < length library) × HasText design)))
 
 pub record HasLongText (asked : FmtFiles) (files : Files) : Type 0 where
   pub design : List ℕ

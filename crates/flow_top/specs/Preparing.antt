@@ -1,23 +1,18 @@
 -- What map has before it writes: the texts, or the status that it ends with.
-use Rattle.std.specs.Prelude.{◌≡◌, ℕ, ◌≤◌, List, length, ⊤, Option}
-use Rattle.flow_io.specs.Files.{Files, Tells}
+use Rattle.std.specs.Prelude.{ℕ, ⊤, Option}
+use Rattle.flow_io.specs.Files.{Files}
 use Rattle.flow_io.specs.Causes.{Rose}
 use Rattle.flow_top.specs.Asked.{MapFiles, Map}
-use Rattle.flow_top.specs.Mapping.{Makes}
-use Rattle.flow_top.specs.Outcome.{HasLimitCause, HasRefusalCause}
-use Rattle.flow_top.specs.declared.mapping.Made.{Made}
+use Rattle.map_flow.specs.Maps.{IsMapped}
+use Rattle.flow_top.specs.Outcome.{MapReads, HasLimitCause, HasRefusalCause}
+use Rattle.map_flow.specs.declared.map.Made.{Made}
 use Rattle.flow_top.specs.declared.status.Status.{Status}
 use Rattle.flow_top.specs.declared.status.Status.TheVariants.{Ok, Usage, ReadFault, WriteFault, Design, Library, NoFit, Limit, Memory}
 
 -- the texts of the design and the library that were read
 pub record Prepared (asked : MapFiles) (told : Option Files) (made : Made) : Type 0 where
-  pub design : List ℕ
-  pub library : List ℕ
-  pub design_told : Tells told asked.design design
-  pub library_told : Tells told asked.library library
-  pub design_short : length design ≤ 16777216
-  pub library_short : length library ≤ 16777216
-  pub makes : Makes design library made
+  pub read : MapReads asked told
+  pub maps : IsMapped read.doc read.lib made
 
 -- why the command stopped before it wrote
 abbrev pub Stopped : MapFiles → Option Files → ℕ → ℕ → Status → Type 0

@@ -9,8 +9,12 @@ use Rattle.rtlil_text.specs.declared.fault.TextCode.{TextCode}
 use Rattle.rtlil_text.specs.declared.fault.TextCode.TheVariants as text
 use Rattle.flow_top.specs.declared.status.DesignCode.{DesignCode}
 use Rattle.flow_top.specs.declared.status.DesignCode.TheVariants as design
-use Rattle.flow_top.specs.declared.status.LibCode.{LibCode}
-use Rattle.flow_top.specs.declared.status.LibCode.TheVariants as library
+use Rattle.lib_tree.specs.declared.fault.LibCode.{LibCode}
+use Rattle.lib_tree.specs.declared.fault.LibCode.TheVariants as library
+use Rattle.net_wires.specs.declared.breach.BuildCode.{BuildCode}
+use Rattle.net_wires.specs.declared.breach.BuildCode.TheVariants as build
+use Rattle.mem_collect.specs.declared.fault.CollectCode.{CollectCode}
+use Rattle.mem_collect.specs.declared.fault.CollectCode.TheVariants as collect
 use Rattle.flow_top.specs.declared.status.Status.{Status}
 use Rattle.flow_top.specs.declared.status.Status.TheVariants.{Ok, Usage, ReadFault, WriteFault, Design, Library, NoFit, Limit, Memory}
 
@@ -22,12 +26,48 @@ text_fault text.Process = 3
 text_fault text.Limit = 4
 text_fault text.Memory = 5
 
-abbrev pub design_fault : DesignCode → ℕ
-design_fault design.NotYet = 90
-design_fault (design.Text code) = text_fault code
+-- the number of a fault of what a text means
+abbrev pub build_fault : BuildCode → ℕ
+build_fault build.NoWire = 1
+build_fault build.Range = 2
+build_fault build.WidthDiffers = 3
+build_fault build.TwoDrivers = 4
+build_fault build.UnknownCell = 5
+build_fault build.MissingParam = 6
+build_fault build.ClockRoot = 7
+build_fault build.AsyncWrite = 8
+build_fault build.CombLoop = 9
+build_fault build.Inout = 10
+build_fault build.BadRam = 11
+build_fault build.Limit = 12
+build_fault build.Memory = 13
 
+-- the number of a fault of memory cells
+abbrev pub collect_fault : CollectCode → ℕ
+collect_fault collect.NoMemory = 1
+collect_fault collect.PortIdTwice = 2
+collect_fault collect.NotConstant = 3
+collect_fault collect.MasksOverlap = 4
+collect_fault collect.BadWidth = 5
+collect_fault collect.Memory = 6
+
+abbrev pub design_fault : DesignCode → ℕ
+design_fault (design.Text code) = text_fault code
+design_fault (design.Build code) = build_fault code
+design_fault (design.Collect code) = collect_fault code
+
+-- the number of a library's fault
 abbrev pub library_fault : LibCode → ℕ
-library_fault library.NotYet = 90
+library_fault library.Token = 1
+library_fault library.Unclosed = 2
+library_fault library.UnknownWord = 3
+library_fault library.NotForKind = 4
+library_fault library.Twice = 5
+library_fault library.Missing = 6
+library_fault library.BadWidths = 7
+library_fault library.BadNumber = 8
+library_fault library.Limit = 9
+library_fault library.Memory = 10
 
 -- the number of the fault in a status, 0 where it has none
 abbrev pub fault_of : Status → ℕ

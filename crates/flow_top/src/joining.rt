@@ -1,8 +1,7 @@
 //! Texts put together from pieces.
 ghost use Rattle.std.specs.Prelude.{◌≡◌, IfOk};
 ghost use Rattle.std.specs.Fmt.{decimal};
-ghost use Rattle.flow_top.specs.Words.{contents};
-ghost use Rattle.flow_top.specs.Joining.{joined};
+ghost use Rattle.flow_top.specs.Joining.{contents, joined};
 
 use lib_core::Memory;
 use std::alloc::Global;

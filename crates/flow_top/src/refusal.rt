@@ -1,11 +1,14 @@
 //! The line that a refused command leaves.
 ghost use Rattle.std.specs.Prelude.{◌≡◌, ◌⊎◌, ◌≤◌, IfOk};
-ghost use Rattle.flow_top.specs.RefusalLine.{refusal_line, text_fault, design_fault, name_of, fault_of, line_in, shown_name, is_refusal, LineLeft, Refused};
+ghost use Rattle.flow_top.specs.RefusalLine.{refusal_line, text_fault, build_fault, collect_fault, design_fault, library_fault, name_of, fault_of, line_in, shown_name, is_refusal, LineLeft, Refused};
 
 use crate::joining::{decimal, joined};
-use crate::status::{DesignCode, LibCode, Status};
+use crate::status::{DesignCode, Status};
 use flow_io::{Desk, DeskFault};
 use lib_core::Memory;
+use lib_read::LibCode;
+use mem_collect::CollectCode;
+use net_wires::BuildCode;
 use rtlil_text::TextCode;
 use std::alloc::Global;
 
@@ -22,13 +25,67 @@ fn text_fault(code: TextCode) -> u64
     }
 }
 
+/// The number of a fault of what a text means.
+fn build_fault(code: BuildCode) -> u64
+    ensures { result ≡ build_fault code }
+{
+    match code {
+        BuildCode::NoWire => 1,
+        BuildCode::Range => 2,
+        BuildCode::WidthDiffers => 3,
+        BuildCode::TwoDrivers => 4,
+        BuildCode::UnknownCell => 5,
+        BuildCode::MissingParam => 6,
+        BuildCode::ClockRoot => 7,
+        BuildCode::AsyncWrite => 8,
+        BuildCode::CombLoop => 9,
+        BuildCode::Inout => 10,
+        BuildCode::BadRam => 11,
+        BuildCode::Limit => 12,
+        BuildCode::Memory => 13,
+    }
+}
+
+/// The number of a fault of memory cells.
+fn collect_fault(code: CollectCode) -> u64
+    ensures { result ≡ collect_fault code }
+{
+    match code {
+        CollectCode::NoMemory => 1,
+        CollectCode::PortIdTwice => 2,
+        CollectCode::NotConstant => 3,
+        CollectCode::MasksOverlap => 4,
+        CollectCode::BadWidth => 5,
+        CollectCode::Memory => 6,
+    }
+}
+
 /// The number of a design's fault.
 fn design_fault(code: DesignCode) -> u64
     ensures { result ≡ design_fault code }
 {
     match code {
-        DesignCode::NotYet => 90,
         DesignCode::Text(code) => text_fault(code),
+        DesignCode::Build(code) => build_fault(code),
+        DesignCode::Collect(code) => collect_fault(code),
+    }
+}
+
+/// The number of a library's fault.
+fn library_fault(code: LibCode) -> u64
+    ensures { result ≡ library_fault code }
+{
+    match code {
+        LibCode::Token => 1,
+        LibCode::Unclosed => 2,
+        LibCode::UnknownWord => 3,
+        LibCode::NotForKind => 4,
+        LibCode::Twice => 5,
+        LibCode::Missing => 6,
+        LibCode::BadWidths => 7,
+        LibCode::BadNumber => 8,
+        LibCode::Limit => 9,
+        LibCode::Memory => 10,
     }
 }
 
@@ -38,10 +95,7 @@ fn fault_of(status: &Status) -> u64
 {
     match status {
         Status::Design { code, .. } => design_fault(*code),
-        Status::Library {
-            code: LibCode::NotYet,
-            ..
-        } => 90,
+        Status::Library { code, .. } => library_fault(*code),
         _ => 0,
     }
 }

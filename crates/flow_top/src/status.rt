@@ -3,22 +3,20 @@ ghost use Rattle.std.specs.Prelude.{◌≡◌};
 ghost use Rattle.flow_top.specs.ExitStatus.{exit_of};
 
 use lib_core::Name;
+use lib_read::LibCode;
+use mem_collect::CollectCode;
+use net_wires::BuildCode;
 use rtlil_text::TextCode;
 
 /// What is wrong with a design.
 #[derive(Clone, Copy, Debug, PartialEq, Eq)]
 pub enum DesignCode {
-    /// A form that this program does not read yet.
-    NotYet,
     /// Its text is no RTLIL.
     Text(TextCode),
-}
-
-/// What is wrong with a library.
-#[derive(Clone, Copy, Debug, PartialEq, Eq)]
-pub enum LibCode {
-    /// A form that this program does not read yet.
-    NotYet,
+    /// Its text means no design.
+    Build(BuildCode),
+    /// Its memory cells make no memories.
+    Collect(CollectCode),
 }
 
 /// What a limit counts.

@@ -14,6 +14,10 @@ struct Form<'a> {
     polarity: u32,
     enables: &'a str,
     cost: u32,
+    /// The low digits of the contents.
+    init: &'a str,
+    /// What stands before the cell.
+    attribute: &'a str,
 }
 
 const SIXTEEN_BY_FOUR: Form<'static> = Form {
@@ -23,6 +27,8 @@ const SIXTEEN_BY_FOUR: Form<'static> = Form {
     polarity: 1,
     enables: "\\we \\we \\we \\we",
     cost: 4,
+    init: "x",
+    attribute: "",
 };
 
 fn design_text(alloc: Global, form: Form<'_>) -> Result<String, AllocError> {
@@ -33,6 +39,8 @@ fn design_text(alloc: Global, form: Form<'_>) -> Result<String, AllocError> {
         polarity,
         enables,
         cost: _,
+        init,
+        attribute,
     } = form;
     let bits = size.saturating_mul(width);
     format!(in alloc;
@@ -43,13 +51,13 @@ fn design_text(alloc: Global, form: Form<'_>) -> Result<String, AllocError> {
   wire width {width} input 4 \\wd
   wire width {abits} input 5 \\ra
   wire width {width} output 6 \\q
-  cell $mem_v2 $m
+{attribute}  cell $mem_v2 $m
     parameter \\MEMID \"\\\\m\"
     parameter \\SIZE {size}
     parameter \\OFFSET 0
     parameter \\ABITS {abits}
     parameter \\WIDTH {width}
-    parameter \\INIT {bits}'x
+    parameter \\INIT {bits}'{init}
     parameter \\RD_PORTS 1
     parameter \\RD_CLK_ENABLE 1'0
     parameter \\RD_CLK_POLARITY 1'0
@@ -161,7 +169,6 @@ fn reports(rt: HostRuntime) -> Result<(), Fail> {
         assert_eq!(rt; run(&rt, alloc, words.as_slice(), &mut desk), Status::Ok);
         let report = format!(in alloc; "{FIRST_LINES}points {points}\ntotal {points}\n")?;
         assert!(rt; has(&desk, "r", report.as_bytes()));
-        assert!(rt; has(&desk, "i", design_text(alloc, form)?.as_bytes()));
     }
     Ok(())
 }
@@ -174,11 +181,11 @@ const NARROW: &str = "module \\top
   wire width 3 input 4 \\wd
   wire width 4 input 5 \\ra
   wire width 3 output 6 \\q
-  wire width 1 $net
+  wire $net
   cell $__R16X4_ $ram.0.0.0\\m
     parameter \\INIT 64'xxxxxxxxxxxxxxxxxxxxxxxxxxxxxxxxxxxxxxxxxxxxxxxxxxxxxxxxxxxxxxxx
-    parameter \\PORT_W_USED 1
-    parameter \\PORT_R_USED 1
+    parameter \\PORT_W_USED 1'1
+    parameter \\PORT_R_USED 1'1
     connect \\PORT_W_CLK \\clk
     connect \\PORT_W_ADDR \\wa
     connect \\PORT_W_WR_DATA { 1'0 \\wd }
@@ -230,29 +237,198 @@ fn no_fit(rt: HostRuntime) -> Result<(), Fail> {
     Ok(())
 }
 
+/// Three libraries in which the RAM of the first design is the one to be taken: two equal ones, a dearer
+/// one before it, and one with two costs.
+const CHOICES: [&str; 3] = [
+    "ram distributed $__R16X4_ { abits 4; width 4; cost 4; init any; port sw \"W\" { clock posedge; } port ar \"R\" { } }
+ram distributed $__OTHER_ { abits 4; width 4; cost 4; init any; port sw \"W\" { clock posedge; } port ar \"R\" { } }
+",
+    "ram distributed $__BIG_ { abits 5; width 4; cost 5; init any; port sw \"W\" { clock posedge; } port ar \"R\" { } }
+ram distributed $__R16X4_ { abits 4; width 4; cost 4; init any; port sw \"W\" { clock posedge; } port ar \"R\" { } }
+",
+    "ram distributed $__R16X4_ { abits 4; width 4; option \"FAST\" 0 { cost 4; } option \"FAST\" 1 { cost 6; } init any; port sw \"W\" { clock posedge; } port ar \"R\" { } }
+",
+];
+
 #[test]
-fn unknown_forms(rt: HostRuntime) -> Result<(), Fail> {
+fn choices(rt: HostRuntime) -> Result<(), Fail> {
     let alloc = rt.alloc();
-    let words = words(alloc, "map d l i n r 1")?;
+    let asked = words(alloc, "map d l i n r 1")?;
     let design = design_text(alloc, SIXTEEN_BY_FOUR)?;
-    let wordy = Form {
-        enables: "\\we \\we \\we \\other",
+    let report = format!(in alloc; "{FIRST_LINES}points 64\ntotal 64\n")?;
+    for library in CHOICES {
+        let mut desk = desk(alloc, design.as_bytes(), library.as_bytes(), &[])?;
+        assert_eq!(rt; run(&rt, alloc, asked.as_slice(), &mut desk), Status::Ok);
+        assert!(rt; has(&desk, "r", report.as_bytes()), "at {library}");
+    }
+    Ok(())
+}
+
+/// The netlist of a memory with contents, in a RAM whose contents have to be written out.
+const WRITTEN_OUT: &str = "module \\top
+  wire input 1 \\clk
+  wire input 2 \\we
+  wire width 4 input 3 \\wa
+  wire width 4 input 4 \\wd
+  wire width 4 input 5 \\ra
+  wire width 4 output 6 \\q
+  cell $__R16X4_ $ram.0.0.0\\m
+    parameter \\INIT 64'0000000000000000000000000000000000000000000000000000000000000100
+    parameter \\PORT_W_USED 1'1
+    parameter \\PORT_R_USED 1'1
+    connect \\PORT_W_CLK \\clk
+    connect \\PORT_W_ADDR \\wa
+    connect \\PORT_W_WR_DATA \\wd
+    connect \\PORT_W_WR_EN \\we
+    connect \\PORT_R_ADDR \\ra
+    connect \\PORT_R_RD_DATA \\q
+  end
+end
+";
+
+const NO_UNDEF: &str =
+    "ram distributed $__R16X4_ { abits 4; width 4; init no_undef; port sw \"W\" { clock posedge; } port ar \"R\" { } }
+";
+
+#[test]
+fn contents_and_style(rt: HostRuntime) -> Result<(), Fail> {
+    let alloc = rt.alloc();
+    let asked = words(alloc, "map d l i n r 1")?;
+    let started = Form {
+        init: "x01xx",
         ..SIXTEEN_BY_FOUR
     };
-    let wordy = design_text(alloc, wordy)?;
+    let design = design_text(alloc, started)?;
+    let mut desk = desk(alloc, design.as_bytes(), NO_UNDEF.as_bytes(), &[])?;
+    assert_eq!(rt; run(&rt, alloc, asked.as_slice(), &mut desk), Status::Ok);
+    assert!(rt; has(&desk, "n", WRITTEN_OUT.as_bytes()));
+    let styled = Form {
+        attribute: "  attribute \\ram_style \"BLOCK\"\n",
+        ..SIXTEEN_BY_FOUR
+    };
+    let mut desk = form_desk(alloc, styled, &[])?;
+    assert_eq!(rt;
+        run(&rt, alloc, asked.as_slice(), &mut desk).exit_status(),
+        7
+    );
+    Ok(())
+}
+
+/// Two modules, each with a memory; the second, in separate cells, has contents.
+const SEPARATE: &str = "module \\two
+  wire input 1 \\clk
+  wire input 2 \\we
+  wire width 4 input 3 \\wa
+  wire width 4 input 4 \\wd
+  wire width 4 input 5 \\ra
+  wire width 4 output 6 \\q
+  memory width 4 size 16 \\m
+  cell $meminit_v2 $i
+    parameter \\MEMID \"\\\\m\"
+    parameter \\ABITS 4
+    parameter \\WIDTH 4
+    parameter \\WORDS 1
+    parameter \\PRIORITY 0
+    connect \\ADDR 4'0000
+    connect \\DATA 4'01xx
+    connect \\EN 4'1111
+  end
+  cell $memwr_v2 $w
+    parameter \\MEMID \"\\\\m\"
+    parameter \\ABITS 4
+    parameter \\WIDTH 4
+    parameter \\CLK_ENABLE 1
+    parameter \\CLK_POLARITY 1
+    parameter \\PORTID 0
+    parameter \\PRIORITY_MASK 0'x
+    connect \\CLK \\clk
+    connect \\EN { \\we \\we \\we \\we }
+    connect \\ADDR \\wa
+    connect \\DATA \\wd
+  end
+  cell $memrd $r
+    parameter \\MEMID \"\\\\m\"
+    parameter \\ABITS 4
+    parameter \\WIDTH 4
+    parameter \\CLK_ENABLE 0
+    parameter \\CLK_POLARITY 0
+    parameter \\TRANSPARENT 0
+    connect \\CLK 1'x
+    connect \\EN 1'x
+    connect \\ADDR \\ra
+    connect \\DATA \\q
+  end
+end
+";
+
+#[test]
+fn separate_cells(rt: HostRuntime) -> Result<(), Fail> {
+    let alloc = rt.alloc();
+    let asked = words(alloc, "map d l i n r 1")?;
+    let first = design_text(alloc, SIXTEEN_BY_FOUR)?;
+    let both = format!(in alloc; "{first}{SEPARATE}")?;
+    let library = library_text(alloc, 4)?;
+    let mut desk = desk(alloc, both.as_bytes(), library.as_bytes(), &[])?;
+    assert_eq!(rt; run(&rt, alloc, asked.as_slice(), &mut desk), Status::Ok);
+    let report = desk.file("r").ok_or("no report")?;
+    assert!(rt; report.ends_with(b"total 128\n"));
+    Ok(())
+}
+
+/// A cell whose output is its own input.
+const LOOP: &str = "module \\m
+  wire \\a
+  cell $not $n
+    parameter \\A_SIGNED 0
+    parameter \\A_WIDTH 1
+    parameter \\Y_WIDTH 1
+    connect \\A \\a
+    connect \\Y \\a
+  end
+end
+";
+
+/// A port of a memory that is not there.
+const NO_MEMORY: &str = "module \\m
+  cell $memrd $r
+    parameter \\MEMID \"\\\\m\"
+    parameter \\ABITS 4
+    parameter \\WIDTH 4
+    parameter \\CLK_ENABLE 0
+    parameter \\CLK_POLARITY 0
+    parameter \\TRANSPARENT 0
+    connect \\ADDR 4'0000
+    connect \\DATA 4'x
+  end
+end
+";
+
+/// A library with a property that its port does not have.
+const NOT_FOR_KIND: &str = "ram distributed $__R16X4_ {
+    abits 4;
+    width 4;
+    cost 4;
+    init any;
+    port sw \"W\" { clock posedge; rden; }
+    port ar \"R\" { }
+}
+";
+
+#[test]
+fn refusals(rt: HostRuntime) -> Result<(), Fail> {
+    let alloc = rt.alloc();
+    let asked = words(alloc, "map d l i n r 1")?;
+    let good = library_text(alloc, 4)?;
+    let good = good.as_bytes();
     for (design, library, line) in [
-        (design.as_bytes(), b"ram".as_slice(), b"refused 6 90 0 -\n"),
-        (b"".as_slice(), b"ram".as_slice(), b"refused 5 90 0 -\n"),
-        (
-            b"\xff\x00".as_slice(),
-            b"".as_slice(),
-            b"refused 5 90 0 -\n",
-        ),
-        (wordy.as_bytes(), b"ram".as_slice(), b"refused 5 90 0 -\n"),
+        ("module \\m\n", good, b"refused 5 2 1 -\n".as_slice()),
+        (LOOP, good, b"refused 5 9 0 $n\n"),
+        (NO_MEMORY, good, b"refused 5 1 0 $r\n"),
+        ("", NOT_FOR_KIND.as_bytes(), b"refused 6 4 6 -\n"),
     ] {
-        let mut desk = desk(alloc, design, library, &[])?;
-        assert!(rt; run(&rt, alloc, words.as_slice(), &mut desk).exit_status() > 4);
-        assert!(rt; has(&desk, "r", line.as_slice()));
+        let mut desk = desk(alloc, design.as_bytes(), library, &[])?;
+        assert!(rt; run(&rt, alloc, asked.as_slice(), &mut desk).exit_status() > 4);
+        assert!(rt; has(&desk, "r", line), "at {design}");
         assert!(rt; desk.file("n").is_none());
     }
     Ok(())
@@ -319,7 +495,7 @@ fn failing_calls(rt: HostRuntime) -> Result<(), Fail> {
 fn refusal_line_fails(rt: HostRuntime) -> Result<(), Fail> {
     let alloc = rt.alloc();
     let words = words(alloc, "map d l i n r 1")?;
-    let mut desk = desk(alloc, b"", b"", &[1])?;
+    let mut desk = desk(alloc, b"x\n", b"", &[1])?;
     assert_eq!(rt;
         run(&rt, alloc, words.as_slice(), &mut desk).exit_status(),
         5

@@ -1,6 +1,6 @@
 use Rattle.std.proofs.Common.{◌≡◌, ◌++◌, length}
 use Rattle.flow_top.specs.Joining.{joined}
-use Rattle.flow_top.specs.Words.{contents}
+use Rattle.flow_top.specs.Joining.{contents}
 use Rattle.flow_top.proofs.joining.joined.Given as goal
 
 -- what is there so far and the rest are the whole

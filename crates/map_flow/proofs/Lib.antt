@@ -1,0 +1,3 @@
+pub mod Mapping
+pub mod Plans
+pub mod Texts
