@@ -1,0 +1,4 @@
+pub mod Conditions
+pub mod States
+pub mod Settled
+pub mod PickedRuns
