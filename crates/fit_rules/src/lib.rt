@@ -11,8 +11,6 @@ pub mod shapes;
 pub mod sizes;
 pub mod spots;
 pub mod standing;
-#[cfg(test)]
-mod tests;
 
 pub use fitting::{fits, shape_of};
 pub use limits::{library_within, mem_within, variant_within};

@@ -8,4 +8,3 @@ mod Stepping
 mod Stated
 mod Starting
 mod Allowed
-mod Samples

@@ -12,8 +12,6 @@ mod ports;
 mod starts;
 mod state;
 mod steps;
-#[cfg(test)]
-mod tests;
 
 pub use picks::PickKey;
 pub use state::RamState;

@@ -8,8 +8,6 @@ mod picks;
 mod pins;
 mod places;
 mod registers;
-#[cfg(test)]
-mod tests;
 mod winners;
 
 pub use mems::MemState;
