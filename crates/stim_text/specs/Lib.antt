@@ -1,0 +1,3 @@
+pub mod Spoken
+pub mod Inputs
+pub mod Stimulus
