@@ -2,7 +2,7 @@ use Rattle.std.proofs.Common.{rules, ap, ◌∙◌}
 use Rattle.std.proofs.lemmas.List.Sorted.{answers_always}
 use Rattle.net_core.specs.Ports.{by_port}
 use Rattle.net_core.proofs.Sorting.{wire_port, wires_by_port}
-use Rattle.cycle_sim.proofs.ports.outputs_by_port.Goals as goal
+use Rattle.picked_run.proofs.ports.outputs_by_port.Goals as goal
 
 pub returns : goal.returns
 returns c =

@@ -28,9 +28,9 @@ use Rattle.sim_cells.specs.Memories.{MemLook, mem_start, mem_stepped}
 use Rattle.sim_cells.specs.RegisterRuns.{RegisterRun, RegisterRunIsAllowed}
 use Rattle.sim_cells.specs.MemoryRuns.{MemoryRun, MemoryRunIsAllowed}
 use Rattle.sim_cells.proofs.Seeing.{agrees_along, back}
-use Rattle.cycle_sim.specs.States.{SimLook, comb_number, reg_number, mem_number, ram_number, key_of, on_some, sim_start, sim_stepped}
-use Rattle.cycle_sim.specs.PickedRuns.{PickedRun, PickedRunIsRun, ShownIsTrace}
-use Rattle.cycle_sim.proofs.Listed.{length_cells, length_states, cell_at, state_at, earlier}
+use Rattle.picked_run.specs.States.{SimLook, comb_number, reg_number, mem_number, ram_number, key_of, on_some, sim_start, sim_stepped}
+use Rattle.picked_run.specs.PickedRuns.{PickedRun, PickedRunIsRun, ShownIsTrace}
+use Rattle.picked_run.proofs.Listed.{length_cells, length_states, cell_at, state_at, earlier}
 
 abbrev look_or : RamLook → Option RamLook → RamLook
 look_or d None = d

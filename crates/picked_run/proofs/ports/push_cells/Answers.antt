@@ -1,8 +1,8 @@
 use Rattle.std.proofs.Common.{not, ◌++◌, ap, ◌∙◌, arith}
 use Rattle.std.specs.List.{filter}
 use Rattle.net_core.specs.Ports.{reading_bits, bits_of_pins}
-use Rattle.cycle_sim.proofs.Pushing.{flat_more}
-use Rattle.cycle_sim.proofs.ports.push_cells.Goals as goal
+use Rattle.picked_run.proofs.Pushing.{flat_more}
+use Rattle.picked_run.proofs.ports.push_cells.Goals as goal
 
 pub loop-cell-preserved : goal.loop-cell-preserved
 loop-cell-preserved c =

@@ -2,7 +2,7 @@
 use Rattle.std.proofs.Common.{◌≡◌, ℕ, zero, suc, ◌+◌, ◌<◌, List, [], ◌∷◌, length, get_or, Some, refl, sym, ap, ◌∙◌, arith}
 use Rattle.std.specs.Prelude.{slice_get}
 use Rattle.std.proofs.lemmas.Option.{same_Some}
-use Rattle.cycle_sim.specs.States.{each_cell, each_state}
+use Rattle.picked_run.specs.States.{each_cell, each_state}
 
 pub length_cells : {X Y : Type 0} (f : ℕ → X → Y) (from : ℕ) (xs : List X) → length (each_cell f from xs) ≡ length xs
 length_cells f from [] = refl

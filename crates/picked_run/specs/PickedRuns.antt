@@ -7,9 +7,9 @@ use Rattle.net_core.specs.Values.{Wave}
 use Rattle.net_core.specs.Ports.{inputs_of, outputs_of, happening_of}
 use Rattle.net_core.specs.Runs.{Run, HasTrace, shown}
 use Rattle.ram_step.specs.Runs.{EdgesAreInputs}
-use Rattle.cycle_sim.specs.Conditions.{CanRun}
-use Rattle.cycle_sim.specs.States.{SimLook, sim_start, sim_stepped}
-use Rattle.cycle_sim.specs.Settled.{IsSettled}
+use Rattle.picked_run.specs.Conditions.{CanRun}
+use Rattle.picked_run.specs.States.{SimLook, sim_start, sim_stepped}
+use Rattle.picked_run.specs.Settled.{IsSettled}
 
 -- states one after the other, and a wave that is settled at each event
 pub record PickedRun (lib : Library) (m : Module) (seed : ℕ) (events : List Event) (v : Wave) : Type 0 where

@@ -1,7 +1,7 @@
 use Rattle.std.proofs.Common.{◌++◌, ap, ◌∙◌, sym, drop, ◌+◌, arith}
 use Rattle.net_core.proofs.Netlists.{refs_flat}
-use Rattle.cycle_sim.proofs.Pushing.{flat_more}
-use Rattle.cycle_sim.proofs.ports.push_wires.Goals as goal
+use Rattle.picked_run.proofs.Pushing.{flat_more}
+use Rattle.picked_run.proofs.ports.push_wires.Goals as goal
 
 pub loop-wire-preserved : goal.loop-wire-preserved
 loop-wire-preserved c =

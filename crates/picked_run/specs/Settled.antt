@@ -21,7 +21,7 @@ use Rattle.ram_step.specs.States.{RamLook, shown_bit}
 use Rattle.sim_cells.specs.Choices.{taken}
 use Rattle.sim_cells.specs.Registers.{reg_shown}
 use Rattle.sim_cells.specs.Memories.{MemLook, read_shown}
-use Rattle.cycle_sim.specs.States.{SimLook, comb_number, reg_number, mem_number, ram_number, key_of}
+use Rattle.picked_run.specs.States.{SimLook, comb_number, reg_number, mem_number, ram_number, key_of}
 
 -- no input and no node drives the net
 pub record IsFree (m : Module) (n : ℕ) : Type 0 where

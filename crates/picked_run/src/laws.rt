@@ -1,5 +1,5 @@
 //! Laws about picked runs, each the contract of a function that does nothing.
-ghost use Rattle.cycle_sim.specs.PickedRuns.{PickedRunIsRun, ShownIsTrace};
+ghost use Rattle.picked_run.specs.PickedRuns.{PickedRunIsRun, ShownIsTrace};
 
 /// The picked run of a module is a run of the module.
 pub fn picked_run_is_run()

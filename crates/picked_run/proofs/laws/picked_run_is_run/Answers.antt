@@ -1,5 +1,5 @@
-use Rattle.cycle_sim.proofs.Picked.{is_run}
-use Rattle.cycle_sim.proofs.laws.picked_run_is_run.Goals as goal
+use Rattle.picked_run.proofs.Picked.{is_run}
+use Rattle.picked_run.proofs.laws.picked_run_is_run.Goals as goal
 
 pub returns : goal.returns
 returns c = is_run c.register_run_is_allowed.ensures c.memory_run_is_allowed.ensures c.picked_run_is_allowed.ensures
