@@ -5,6 +5,8 @@ use rtlil_text::TextCode;
 use std::alloc::{AllocError, Global};
 use std::test::Fail;
 
+mod cells;
+
 /// A memory of words with one write port and one read port.
 #[derive(Clone, Copy)]
 struct Form<'a> {
