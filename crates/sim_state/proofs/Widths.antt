@@ -75,16 +75,16 @@ slot_uses x (kind ∷ kinds) pins n g i s fit e =
     let here : List Slot = group_slots n g kind count pins in
     let long : length here ≡ count = length-group_slots n g kind count pins parts.enough in
     elim (get_joined here (slots_from (n + count) (g + 1) kinds (skip count pins)) i s e) [
-      inl low ↦ (
-        let w = group_use n g kind count pins i s low in
-        let below = get_below here i s low in
-        (sym (in_take count pins i (omega (arith, below, long))) ∙ w.0, ap (λ k. slot_fits x k s.pins) (sym w.1) ∙ all_at (slot_fits x kind) (take count pins) parts.each i s.pins w.0)
-      )
+      | inl low ↦ (
+          let w = group_use n g kind count pins i s low in
+          let below = get_below here i s low in
+          (sym (in_take count pins i (omega (arith, below, long))) ∙ w.0, ap (λ k. slot_fits x k s.pins) (sym w.1) ∙ all_at (slot_fits x kind) (take count pins) parts.each i s.pins w.0)
+          )
       | inr (j, at, high) ↦ (
-        let r = slot_uses x kinds (drop count pins) (n + count) (g + 1) j s parts.others (ap (λ ps. slice_get (slots_from (n + count) (g + 1) kinds ps) j) (sym (skip_is count pins)) ∙ high) in
-        let z : i ≡ count + j = omega (arith, at, long) in
-        (ap (slice_get pins) z ∙ sym (in_drop count pins j) ∙ r.0, r.1)
-      )
+          let r = slot_uses x kinds (drop count pins) (n + count) (g + 1) j s parts.others (ap (λ ps. slice_get (slots_from (n + count) (g + 1) kinds ps) j) (sym (skip_is count pins)) ∙ high) in
+          let z : i ≡ count + j = omega (arith, at, long) in
+          (ap (slice_get pins) z ∙ sym (in_drop count pins j) ∙ r.0, r.1)
+          )
     ]
 
 -- each use fits some group

@@ -66,14 +66,7 @@ impl SimState {
     }
 
     /// The state after the event of a number, at these values of the nets. It takes no memory.
-    pub fn step(
-        &mut self,
-        module: &Module,
-        seed: u64,
-        number: u64,
-        values: &[bool],
-        event: &Event,
-    )
+    pub fn step(&mut self, module: &Module, seed: u64, number: u64, values: &[bool], event: &Event)
         requires { IsStateOfCells «module».now self.old }
         ensures value { self.new ≡ sim_stepped «module».now seed number event.now (valuation values.now) self.old }
         ensures cells { IsStateOfCells «module».now self.new }

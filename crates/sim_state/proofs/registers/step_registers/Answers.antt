@@ -1,8 +1,9 @@
-use Rattle.std.proofs.Common.{◌≡◌, ◌<◌, length, get_or, [], Some, ap, sym, ◌∙◌, arith}
+use Rattle.std.proofs.Common.{◌≡◌, ◌+◌, ◌<◌, length, get_or, [], Some, ap, sym, ◌∙◌, arith}
 use Rattle.std.specs.Prelude.{slice_get}
 use Rattle.std.proofs.lemmas.Option.{slice_get-get_or}
 use Rattle.ram_step.specs.Moments.{valuation}
 use Rattle.sim_cells.specs.KeptBits.{bit_lists}
+use Rattle.picked_run.specs.States.{key_of}
 use Rattle.sim_state.specs.Cells.{IsKept, reg_goes}
 use Rattle.sim_state.proofs.Listing.{element, stepped_none, stepped_all}
 use Rattle.sim_state.proofs.Kept.{length_lists, list_at, kept_more, kept_states, length-stepped}
@@ -37,7 +38,7 @@ loop-index-preserved c =
     let there : slice_get kept n ≡ Some was = slice_get-get_or kept n c.index-kept-index.result inside in
     let bits = c.step_kept.new.kept in (
       kept_more (reg_goes c.args.first c.args.seed c.args.number c.args.event.now (valuation c.args.values.now)) c.args.regs.now c.args.kept.now kept n reg was bits found there c.step_kept.ensures c.loop-index.invariant.0,
-      kept_states c.args.regs.now kept n reg was bits found there (ap length c.step_kept.ensures ∙ length-stepped reg _ _ _ _) c.loop-index.invariant.1,
+      kept_states c.args.regs.now kept n reg was bits found there (ap length c.step_kept.ensures ∙ length-stepped reg (valuation c.args.values.now) c.args.event.now (key_of c.args.seed c.args.number (c.args.first + n)) was.items) c.loop-index.invariant.1,
     )
 
 pub returns-clause-count : goal.returns-clause-count
