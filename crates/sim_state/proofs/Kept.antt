@@ -1,5 +1,5 @@
 -- What registers keep, in buffers; and what stands for want of a state.
-use Rattle.std.proofs.Common.{◌≡◌, ℕ, zero, suc, ◌+◌, ◌<◌, Bool, List, [], ◌∷◌, ◌++◌, length, get_or, set, take, map, Option, Some, refl, sym, ap, subst, ◌∙◌, arith}
+use Rattle.std.proofs.Common.{◌≡◌, ℕ, zero, suc, ◌+◌, Bool, List, [], ◌∷◌, ◌++◌, length, set, take, Some, refl, sym, ap, subst, ◌∙◌}
 use Rattle.std.specs.Prelude.{slice_get, Vec}
 use Rattle.std.specs.Global.{Global}
 use Rattle.std.proofs.lemmas.List.{map-set, map-append}
@@ -8,7 +8,6 @@ use Rattle.std.proofs.lemmas.List.FromFn.{length-map-range_with_len}
 use Rattle.net_core.specs.declared.bits.Event.{Event}
 use Rattle.net_core.specs.declared.cells.Reg.{Reg}
 use Rattle.net_core.specs.Values.{Valuation}
-use Rattle.net_core.proofs.Basics.{get_below}
 use Rattle.ram_step.specs.declared.picks.PickKey.{PickKey}
 use Rattle.sim_cells.specs.KeptBits.{bit_lists}
 use Rattle.sim_cells.specs.Registers.{reg_stepped}

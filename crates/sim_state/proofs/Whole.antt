@@ -1,6 +1,5 @@
 -- What all cells of a module keep, put together from the cells of each kind.
 use Rattle.std.proofs.Common.{◌≡◌, ℕ, ◌+◌, ◌++◌, ◌<◌, ◌^◌, Bool, List, map, length, Option, Some, refl, sym, ap, subst, ◌∙◌, arith}
-use Rattle.std.specs.Prelude.{slice_get}
 use Rattle.std.specs.List.{flat_map}
 use Rattle.std.proofs.lemmas.List.{length-append, length-map}
 use Rattle.std.proofs.lemmas.List.FromFn.{length-map-range_with_len}
@@ -12,7 +11,6 @@ use Rattle.net_core.specs.declared.rams.RamCell.{RamCell}
 use Rattle.net_core.specs.declared.modules.Module.{Module}
 use Rattle.net_core.specs.Values.{Valuation}
 use Rattle.net_core.specs.Nodes.{Node, comb_node, reg_node, mem_nodes, ram_nodes}
-use Rattle.net_core.specs.Runs.{variant_of}
 use Rattle.ram_step.specs.States.{RamLook, start_of, stepped}
 use Rattle.sim_cells.specs.Memories.{MemLook}
 use Rattle.picked_run.specs.Conditions.{CanRun}

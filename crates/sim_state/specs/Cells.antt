@@ -12,7 +12,7 @@ use Rattle.ram_step.specs.declared.picks.PickKey.{PickKey}
 use Rattle.ram_step.specs.States.{RamLook, IsStateOf, start_of, stepped}
 use Rattle.sim_cells.specs.Registers.{reg_start, reg_stepped}
 use Rattle.sim_cells.specs.Memories.{MemLook, IsMemState, mem_start, mem_stepped}
-use Rattle.picked_run.specs.States.{each_cell, each_state, key_of, on_some}
+use Rattle.picked_run.specs.States.{key_of, on_some}
 
 abbrev pub reg_begins : ℕ → ℕ → ℕ → Reg → List Bool
 reg_begins first seed i r = reg_start r (key_of seed 0 (first + i))

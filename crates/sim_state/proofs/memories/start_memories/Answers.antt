@@ -1,4 +1,4 @@
-use Rattle.std.proofs.Common.{◌≡◌, ◌+◌, take, Some, sym, subst, ap, ◌∙◌, arith}
+use Rattle.std.proofs.Common.{◌≡◌, ◌+◌, take, Some, sym, subst, arith}
 use Rattle.std.specs.Prelude.{slice_get}
 use Rattle.sim_state.specs.Cells.{AreStates, IsKeptByMem, mem_begins}
 use Rattle.sim_state.proofs.Listing.{element, cells_more, states_none, states_push}

@@ -1,4 +1,4 @@
-use Rattle.std.proofs.Common.{◌≡◌, Some, sym, ap, subst, ◌∙◌, arith}
+use Rattle.std.proofs.Common.{sym, subst, ◌∙◌, arith}
 use Rattle.net_core.proofs.Basics.{get_within}
 use Rattle.std.proofs.lemmas.Option.{same_Some}
 use Rattle.ram_step.specs.Moments.{valuation}

@@ -1,10 +1,10 @@
-use Rattle.std.proofs.Common.{◌≡◌, ◌+◌, ◌<◌, length, get_or, [], Some, ap, sym, ◌∙◌, arith}
+use Rattle.std.proofs.Common.{◌≡◌, ◌+◌, ◌<◌, length, get_or, [], Some, ap, ◌∙◌, arith}
 use Rattle.std.specs.Prelude.{slice_get}
 use Rattle.std.proofs.lemmas.Option.{slice_get-get_or}
 use Rattle.ram_step.specs.Moments.{valuation}
 use Rattle.sim_cells.specs.KeptBits.{bit_lists}
 use Rattle.picked_run.specs.States.{key_of}
-use Rattle.sim_state.specs.Cells.{IsKept, reg_goes}
+use Rattle.sim_state.specs.Cells.{reg_goes}
 use Rattle.sim_state.proofs.Listing.{element, stepped_none, stepped_all}
 use Rattle.sim_state.proofs.Kept.{length_lists, list_at, kept_more, kept_states, length-stepped}
 use Rattle.sim_state.proofs.registers.step_registers.Goals as goal

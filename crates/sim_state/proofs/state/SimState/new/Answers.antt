@@ -1,5 +1,4 @@
 use Rattle.std.proofs.Common.{sym, subst}
-use Rattle.net_core.specs.declared.mems.Mem.{Mem}
 use Rattle.net_core.specs.Valid.{Each, MemFits}
 use Rattle.picked_run.specs.Conditions.{RamRuns}
 use Rattle.sim_cells.specs.KeptBits.{bit_lists}

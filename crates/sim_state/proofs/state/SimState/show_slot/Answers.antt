@@ -1,9 +1,8 @@
-use Rattle.std.proofs.Common.{◌≡◌, ◌<◌, ◌≤◌, length, Option, Some, sym, ap, subst, ◌∙◌, arith}
+use Rattle.std.proofs.Common.{◌≡◌, Some, sym, ap, subst, ◌∙◌, arith}
 use Rattle.std.specs.Prelude.{slice_get}
 use Rattle.std.proofs.lemmas.Option.{same_Some}
 use Rattle.net_core.specs.declared.rams.RamCell.{RamCell}
 use Rattle.ram_step.specs.Moments.{valuation}
-use Rattle.ram_step.specs.States.{RamLook}
 use Rattle.picked_run.specs.States.{SimLook}
 use Rattle.sim_state.specs.Shows.{ShowsSlot}
 use Rattle.sim_state.proofs.Listing.{element_of}
