@@ -5,3 +5,8 @@ pub mod Roots
 pub mod Ranks
 pub mod PortNames
 pub mod RamTables
+pub mod RamCells
+pub mod LinkFronts
+pub mod Drives
+pub mod Quiet
+pub mod Agreeing

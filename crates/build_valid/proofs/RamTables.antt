@@ -239,12 +239,23 @@ row_drives : (n : List ℕ) (p : SlotPin) (o : Option ℕ) → All RowDrives (pi
 row_drives n p None = tt
 row_drives n p (Some w) = (λ e. pin_drives p (sym (number_told n p) ∙ e), tt)
 
+ten_drive : (a b c d e f g h i j : List PinRow) → All RowDrives a → All RowDrives b → All RowDrives c → All RowDrives d → All RowDrives e → All RowDrives f → All RowDrives g → All RowDrives h → All RowDrives i → All RowDrives j
+    → All RowDrives (a ++ b ++ c ++ d ++ e ++ f ++ g ++ h ++ i ++ j)
+ten_drive a b c d e f g h i j qa qb qc qd qe qf qg qh qi qj =
+    let join : (xs ys : List PinRow) → All RowDrives xs → All RowDrives ys → All RowDrives (xs ++ ys) = λ xs ys. all_join RowDrives xs ys in
+    join (a ++ b ++ c ++ d ++ e ++ f ++ g ++ h ++ i) j
+    (join (a ++ b ++ c ++ d ++ e ++ f ++ g ++ h) i
+    (join (a ++ b ++ c ++ d ++ e ++ f ++ g) h
+    (join (a ++ b ++ c ++ d ++ e ++ f) g
+    (join (a ++ b ++ c ++ d ++ e) f (join (a ++ b ++ c ++ d) e (join (a ++ b ++ c) d (join (a ++ b) c (join a b qa qb) qc) qd) qe) qf) qg) qh) qi) qj
+
 slot_drives : (v : Variant) (g : Group) (level : ℕ) (n : List ℕ) → All RowDrives (slot_pins v g level n)
 unfolding slot_pins
 slot_drives v g level n =
     let row : (p : SlotPin) → All RowDrives (pin_at v g level n p) = λ p. row_drives n p (pin_width v g level p) in
-    all_join RowDrives _ _ (all_join RowDrives _ _ (all_join RowDrives _ _ (all_join RowDrives _ _ (all_join RowDrives _ _ (all_join RowDrives _ _ (all_join RowDrives _ _ (all_join RowDrives _ _ (all_join RowDrives _ _ (row pin.Clk) (row pin.ClkEn)) (row pin.Addr))
-    (row pin.RdData)) (row pin.RdEn)) (row pin.RdSrst)) (row pin.RdArst)) (row pin.WrData)) (row pin.WrEn)) (row pin.WrBe)
+    ten_drive (pin_at v g level n pin.Clk) (pin_at v g level n pin.ClkEn) (pin_at v g level n pin.Addr) (pin_at v g level n pin.RdData) (pin_at v g level n pin.RdEn)
+    (pin_at v g level n pin.RdSrst) (pin_at v g level n pin.RdArst) (pin_at v g level n pin.WrData) (pin_at v g level n pin.WrEn) (pin_at v g level n pin.WrBe)
+    (row pin.Clk) (row pin.ClkEn) (row pin.Addr) (row pin.RdData) (row pin.RdEn) (row pin.RdSrst) (row pin.RdArst) (row pin.WrData) (row pin.WrEn) (row pin.WrBe)
 
 names_drive : (v : Variant) (g : Group) (ns : List (List ℕ)) (ss : List SlotRow) → All RowDrives (names_pins v g ns ss)
 names_drive v g [] ss = tt

@@ -1,10 +1,12 @@
 -- The module has a combinational order, where the nodes of its cells have one.
-use Rattle.std.proofs.Common.{◌≡◌, ℕ, List, [], ◌∷◌, ◌++◌, map, Some, slice_get, refl}
+use Rattle.std.proofs.Common.{◌≡◌, ℕ, List, [], ◌∷◌, ◌++◌, map, Some, slice_get, refl, sym, subst}
 use Rattle.std.specs.List.{flat_map}
+use Rattle.lib_core.specs.declared.library.Library.{Library}
 use Rattle.rtlil_text.specs.declared.doc.DocModule.{DocModule}
 use Rattle.rtlil_text.specs.Grammar.{All}
 use Rattle.net_core.specs.declared.cells.Comb.{Comb}
 use Rattle.net_core.specs.declared.cells.Reg.{Reg}
+use Rattle.net_core.specs.declared.modules.Module.{Module}
 use Rattle.net_core.specs.declared.rams.RamCell.{RamCell}
 use Rattle.net_core.specs.declared.rams.SlotUse.{SlotUse}
 use Rattle.net_core.specs.Nodes.{comb_node, Node, Ordered, ram_nodes, reg_node, Rises, slot_node}
@@ -15,8 +17,9 @@ use Rattle.raw_cells.specs.declared.raw.RawCell.{RawCell}
 use Rattle.raw_cells.specs.declared.raw.RawPin.{RawPin}
 use Rattle.net_module.specs.Assembly.{comb_by, combs_of, module_of, ram_by, rams_of, reg_by, regs_of}
 use Rattle.net_module.specs.Made.{shaped, Wiring}
-use Rattle.net_module.specs.Nodes.{cell_nodes, made_nodes, nodes_in}
+use Rattle.net_module.specs.Nodes.{cell_nodes, made_nodes, memories_in, nodes_in}
 use Rattle.net_module.specs.PartNodes.{Memories}
+use Rattle.net_build.specs.Means.{gathered_in, IsMeant, wiring_of}
 use Rattle.net_fits.proofs.Lists.{all_back, all_join, all_left, all_of, all_right, each_of}
 
 -- what rises along a cell's nodes rises along what it becomes, list by list
@@ -73,3 +76,7 @@ ordered agree memories w d cs count o =
           each_of (λ (x : SlotUse). Rises rank (slot_node x)) c.slots
           (all_back (Rises rank) slot_node c.slots (each_of (λ (x : RamCell). All (Rises rank) (ram_nodes x)) (rams_of w.library w.places w.roots cs) all.rams i c at)) j s is;
     }
+
+pub meant_ordered : RanksAgree → (lib : Library) (modules : List DocModule) (d : DocModule) (m : Module) → IsMeant lib modules d m → Ordered m
+meant_ordered agree lib modules d m is =
+    subst Ordered (sym is.is) (ordered agree (memories_in d.items) (wiring_of lib is.nets is.roots is.starts) d (gathered_in lib modules d).cells is.nets.count is.ordered)

@@ -1,2 +1,3 @@
 pub mod Libraries
 pub mod Sound
+pub mod Cells
