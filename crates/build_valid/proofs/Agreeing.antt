@@ -42,12 +42,12 @@ use Rattle.build_valid.proofs.Quiet.{CellQuiet, PinQuiet}
 
 -- ---- the end of a place, and what its bit says of it
 
-record EndOf (t : List Link) (seen : List ℕ) (new : List Bit) (p : ℕ) : Type 0 where
-  end : Link
-  leads_to : Leads t (links.To p) end
-  says_so : Says seen end (place_bit new p)
+pub record EndOf (t : List Link) (seen : List ℕ) (new : List Bit) (p : ℕ) : Type 0 where
+  pub end : Link
+  pub leads_to : Leads t (links.To p) end
+  pub says_so : Says seen end (place_bit new p)
 
-end_of_place : (t : List Link) (new : List Bit) (count : ℕ) (r : Resolves t new count) (p : ℕ) → p < length t → EndOf t (nets r.ends) new p
+pub end_of_place : (t : List Link) (new : List Bit) (count : ℕ) (r : Resolves t new count) (p : ℕ) → p < length t → EndOf t (nets r.ends) new p
 end_of_place t new count r p h =
     let long = r.long in
     let long_too = r.numbered.long in

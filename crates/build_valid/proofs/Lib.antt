@@ -10,3 +10,6 @@ pub mod LinkFronts
 pub mod Drives
 pub mod Quiet
 pub mod Agreeing
+pub mod Showing
+pub mod SlotKinds
+pub mod Untouched

@@ -18,7 +18,7 @@ use Rattle.net_checks.specs.Laws.{GatheredIsSound}
 use Rattle.net_checks.specs.Marks.{port_bits}
 use Rattle.net_build.specs.Faults.{IsFaultless}
 use Rattle.net_build.specs.Means.{context_in, gathered_in, IsWired}
-use Rattle.net_fits.specs.Driven.{driven_of, input_sources, IsSolved}
+use Rattle.net_fits.specs.Driven.{cell_sources, driven_of, input_sources, IsSolved, left_sources}
 use Rattle.build_valid.proofs.Faultless.{no_conflict, no_rings, none_mapped}
 use Rattle.build_valid.proofs.Resolving.{resolving}
 
@@ -33,7 +33,7 @@ inputs_same from (item.Connect l r ∷ is) = inputs_same from is
 
 -- and what is driven
 pub driven_same : (is : List Item) (g : Gathered) → driven is g ≡ driven_of is g
-driven_same is g = ap (λ ss. ss ++ _) (inputs_same 0 is)
+driven_same is g = ap (λ ss. ss ++ (left_sources g.pairs ++ cell_sources g.cells)) (inputs_same 0 is)
 
 pub wired_solved : GatheredIsSound → (lib : Library) (modules : List DocModule) (d : DocModule) (nets : Nets) (roots : List ClockRoot) → IsFaultless lib modules d → IsWired d (gathered_in lib modules d) nets roots
     → IsSolved (context_in lib modules d) d nets.bits nets.count
