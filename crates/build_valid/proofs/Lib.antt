@@ -13,3 +13,8 @@ pub mod Agreeing
 pub mod Showing
 pub mod SlotKinds
 pub mod Untouched
+pub mod Free
+pub mod InoutFaults
+pub mod InoutFree
+pub mod InoutBits
+pub mod InoutsHeld

@@ -1,3 +1,4 @@
 pub mod Libraries
 pub mod Sound
 pub mod Cells
+pub mod Inouts
