@@ -46,7 +46,7 @@ take_front (suc n) (x ∷ xs) zero b e = (e, omega arith)
 take_front (suc n) (x ∷ xs) (suc i) b e = let rest = take_front n xs i b e in (rest.0, (let h = rest.1 in omega (arith, h)))
 
 -- an item of two lists stands in the first, or behind it
-in_either : {X : Type 0} (xs ys : List X) (k : ℕ) (x : X) → slice_get (xs ++ ys) k ≡ Some x → (slice_get xs k ≡ Some x) ⊎ ((j : ℕ) × (slice_get ys j ≡ Some x))
+pub in_either : {X : Type 0} (xs ys : List X) (k : ℕ) (x : X) → slice_get (xs ++ ys) k ≡ Some x → (slice_get xs k ≡ Some x) ⊎ ((j : ℕ) × (slice_get ys j ≡ Some x))
 in_either [] ys k x e = inr (k, e)
 in_either (y ∷ xs) ys zero x e = inl e
 in_either (y ∷ xs) ys (suc k) x e = in_either xs ys k x e

@@ -50,7 +50,7 @@ root_within t ds _ r _ (clocked.invert p e q _ f at is rest) = root_within t ds 
 no_root : (p : ℕ) (flipped : Bool) → leads.Unknown ≡ leads.Root p flipped → ⊥
 no_root p flipped e = cc
 
-root_at : (roots : List ClockRoot) (q p : ℕ) (flipped : Bool) → get_or roots q leads.Unknown ≡ leads.Root p flipped → slice_get roots q ≡ Some (leads.Root p flipped)
+pub root_at : (roots : List ClockRoot) (q p : ℕ) (flipped : Bool) → get_or roots q leads.Unknown ≡ leads.Root p flipped → slice_get roots q ≡ Some (leads.Root p flipped)
 root_at roots q p flipped e =
     elim (cases_lt q (length roots)) [
       | inl h ↦ slice_get-get_or roots q leads.Unknown h ∙ ap (λ r. Some r) e

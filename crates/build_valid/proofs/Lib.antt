@@ -18,3 +18,6 @@ pub mod InoutFaults
 pub mod InoutFree
 pub mod InoutBits
 pub mod InoutsHeld
+pub mod Rising
+pub mod Inverted
+pub mod RamsValid
