@@ -21,3 +21,5 @@ pub mod InoutsHeld
 pub mod Rising
 pub mod Inverted
 pub mod RamsValid
+pub mod SlotCount
+pub mod Validated

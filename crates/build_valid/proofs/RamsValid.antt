@@ -1,5 +1,5 @@
 -- The RAM cells of a module with nothing wrong fit.
-use Rattle.std.proofs.Common.{◌≡◌, ℕ, zero, suc, ◌*◌, ◌+◌, ◌≤◌, ◌<◌, Bool, true, cond, ◌&&◌, ◌||◌, List, [], ◌∷◌, ◌++◌, drop, length, nat_eq, Option, Some, None, slice_get, codes, refl, sym, ap, ◌∙◌, subst, arith}
+use Rattle.std.proofs.Common.{◌≡◌, ℕ, zero, suc, ◌*◌, ◌+◌, ◌≤◌, ◌<◌, Bool, true, false, cond, ◌&&◌, ◌||◌, List, [], ◌∷◌, ◌++◌, drop, length, nat_eq, Option, Some, None, slice_get, codes, refl, sym, ap, ◌∙◌, subst, arith}
 use Rattle.std.specs.Prelude.{option_and_then}
 use Rattle.std.specs.List.{flat_map}
 use Rattle.std.proofs.Math.Nat.{min-eq_left}
@@ -134,7 +134,7 @@ module _ (lib : Library) (fits : LibraryFits lib) (m : Module) (places : List Bi
       let is = cell_is name u v ps e in
       let few = slots_few name u v ps (of_variant (λ x. length (port_names x) ≤ 32) lib u v fits.ports e) in
       let short = contents_few v c.init (of_variant (λ x. last_words x * last_width x ≤ 4194304) lib u v fits.bits e) (cell_contents c v (cell_variant lib c) is shaped) in
-      let kinds = kinds_of places roots ps RowRises (λ g s. EdgeFits m g.edge s.clock) (edge_made ps) name u v (rises v e) in
+      let kinds = kinds_of places roots ps RowRises (λ g s. EdgeFits m g.edge s.clock) (edge_made ps) name u v (rises v e).rises in
       let reads = reads_told places roots ps name u v in
       record {
         fits = record {

@@ -1,5 +1,5 @@
 -- The edges that the row of a RAM cell gives to its ports are those of their groups.
-use Rattle.std.proofs.Common.{◌≡◌, ℕ, zero, suc, Bool, true, false, List, [], ◌∷◌, ◌++◌, drop, length, Option, Some, None, codes, slice_get, refl, sym, ap, ◌∙◌, subst}
+use Rattle.std.proofs.Common.{◌≡◌, ℕ, zero, suc, Bool, true, false, ◌||◌, List, [], ◌∷◌, ◌++◌, drop, length, Option, Some, None, codes, slice_get, refl, sym, ap, ◌∙◌, subst}
 use Rattle.std.specs.Prelude.{option_and_then, if◌then◌else◌}
 use Rattle.std.proofs.lemmas.Option.{same_Some}
 use Rattle.lib_core.specs.declared.library.EdgeKind.{EdgeKind}
@@ -30,7 +30,7 @@ use Rattle.ram_rows.specs.declared.slots.Level.{Level}
 use Rattle.ram_rows.specs.declared.slots.SlotRow.{SlotRow}
 use Rattle.ram_rows.specs.Options.{chosen_by}
 use Rattle.ram_rows.specs.RamNames.{slot_name}
-use Rattle.ram_rows.specs.RamRows.{groups_at, has_strange_level, level_at, names_at, rising_at, row_at, slot_at, slot_level, value_if, values_at}
+use Rattle.ram_rows.specs.RamRows.{any_strange, groups_at, has_strange_level, is_strange, level_at, names_at, rising_at, row_at, slot_at, slot_level, value_if, values_at}
 use Rattle.raw_cells.specs.declared.raw.CellShape.{CellShape}
 use Rattle.raw_cells.specs.declared.raw.CellShape.TheVariants as shape
 use Rattle.raw_cells.specs.declared.raw.Kept.{Kept}
@@ -115,8 +115,13 @@ row_rising v params r e =
 
 -- ---- the rows of gathered cells
 
+-- the ports work at the edges of their groups, and their levels are places of widths
+pub record RowSuits (v : Variant) (r : RamRow) : Type 0 where
+  pub rises : GroupsHold RowRises v.groups r.slots
+  pub levels : any_strange (length v.widths) r.slots ≡ false
+
 abbrev pub UseRises : Library → RamUse → Type 0
-UseRises lib u = (v : Variant) → variant_of lib u ≡ Some v → GroupsHold RowRises v.groups u.row.slots
+UseRises lib u = (v : Variant) → variant_of lib u ≡ Some v → RowSuits v u.row
 
 abbrev RowTold : Library → CellRow → Type 0
 RowTold lib (row.Comb r) = Unit {0}
@@ -147,15 +152,21 @@ memory_case : (lib : Library) (b : Bool) (o : Option MemRow) → FoundTold lib (
 memory_case lib true o = mem_told lib o
 memory_case lib false o = tt
 
-strange_case : (lib : Library) (b : Bool) (u : RamUse) → UseRises lib u → RowTold lib (strange_or b u)
+strange_case : (lib : Library) (b : Bool) (u : RamUse) → (b ≡ false → UseRises lib u) → RowTold lib (strange_or b u)
 strange_case lib true u h = tt
-strange_case lib false u h = h
+strange_case lib false u h = h refl
+
+or_false : (a b : Bool) → (a || b) ≡ false → b ≡ false
+or_false true b e = absurd cc
+or_false false b e = e
 
 slots_told : (lib : Library) (ram place : ℕ) (v : Variant) (params : List Attr) (o : Option RamRow) → variant_in (slice_get lib.rams ram) place ≡ Some v → row_at v params ≡ o → FoundTold lib (found_slots ram place v o)
 slots_told lib ram place v params None at e = tt
 slots_told lib ram place v params (Some r) at e =
     strange_case lib (has_strange_level v r) (record { ram = ram; variant = place; row = r })
-    (λ w is. subst (λ (y : Variant). GroupsHold RowRises y.groups r.slots) (same_Some v w (sym at ∙ is)) (row_rising v params r e))
+    (λ plain w is.
+    subst (λ (y : Variant). RowSuits y r) (same_Some v w (sym at ∙ is))
+    (record { rises = row_rising v params r e; levels = or_false (is_strange (length v.widths) r.level) (any_strange (length v.widths) r.slots) plain }))
 
 variant_told : (lib : Library) (ram place : ℕ) (params : List Attr) (o : Option Variant) → ((v : Variant) → o ≡ Some v → variant_in (slice_get lib.rams ram) place ≡ Some v) → FoundTold lib (found_variant ram place params o)
 variant_told lib ram place params None f = tt

@@ -2,3 +2,5 @@ pub mod Libraries
 pub mod Sound
 pub mod Cells
 pub mod Inouts
+pub mod Documents
+pub mod Whole
