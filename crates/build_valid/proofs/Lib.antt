@@ -23,3 +23,4 @@ pub mod Inverted
 pub mod RamsValid
 pub mod SlotCount
 pub mod Validated
+pub mod Counted
