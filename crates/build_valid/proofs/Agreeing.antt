@@ -104,19 +104,17 @@ module _ (n m : ℕ) (roots : List ClockRoot) where
 
   pins_never : (ps : List RawPin) → All PinQuiet ps → All (λ (p : RawPin). SourcesWithin m p.bits) ps → ((q : ℕ) → StandsIn (flat_map (pin_digits n) ps) q → NeverAt q) → All PinNever ps
   pins_never [] quiet w f = tt
-  pins_never (p ∷ ps) quiet w f =
-      (
-        given_case p.given p.clock p.drives p.bits quiet.0 (λ q s. f q (stands_left (pin_digits n p) (flat_map (pin_digits n) ps) q s)) w.0,
-        pins_never ps quiet.1 w.1 (λ q s. f q (stands_right (pin_digits n p) (flat_map (pin_digits n) ps) q s)),
-      )
+  pins_never (p ∷ ps) quiet w f = (
+    given_case p.given p.clock p.drives p.bits quiet.0 (λ q s. f q (stands_left (pin_digits n p) (flat_map (pin_digits n) ps) q s)) w.0,
+    pins_never ps quiet.1 w.1 (λ q s. f q (stands_right (pin_digits n p) (flat_map (pin_digits n) ps) q s)),
+  )
 
   cells_never : (cs : List RawCell) → All CellQuiet cs → CellsWithin m cs → ((q : ℕ) → StandsIn (flat_map (cell_digits n) cs) q → NeverAt q) → All (λ (c : RawCell). All PinNever c.pins) cs
   cells_never [] quiet w f = tt
-  cells_never (c ∷ cs) quiet w f =
-      (
-        pins_never c.pins quiet.0 w.0 (λ q s. f q (stands_left (cell_digits n c) (flat_map (cell_digits n) cs) q s)),
-        cells_never cs quiet.1 w.1 (λ q s. f q (stands_right (cell_digits n c) (flat_map (cell_digits n) cs) q s)),
-      )
+  cells_never (c ∷ cs) quiet w f = (
+    pins_never c.pins quiet.0 w.0 (λ q s. f q (stands_left (cell_digits n c) (flat_map (cell_digits n) cs) q s)),
+    cells_never cs quiet.1 w.1 (λ q s. f q (stands_right (cell_digits n c) (flat_map (cell_digits n) cs) q s)),
+  )
 
 -- ---- all of it
 

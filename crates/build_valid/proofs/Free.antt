@@ -107,8 +107,7 @@ module _ (n : ℕ) (places : List Bit) (roots : List ClockRoot) where
   comb_free : (name : List ℕ) (s : CellShape) (ps : List RawPin) → CellFree s ps → All (λ (c : Comb). All Free (comb_bits c) × NetsFree c.y) (comb_by places name s ps)
   unfolding comb_of
   comb_free name (shape.Comb r) ps a =
-      let at = at_free ps a in
-      (
+      let at = at_free ps a in (
         (
           all_join Free (bits_at places ps (codes "\\A")) (bits_at places ps (codes "\\B") ++ bits_at places ps (codes "\\S")) (at (codes "\\A")) (all_join Free (bits_at places ps (codes "\\B")) (bits_at places ps (codes "\\S")) (at (codes "\\B")) (at (codes "\\S"))),
           nets_free (bits_at places ps (codes "\\Y")) (at (codes "\\Y")),
@@ -154,8 +153,7 @@ module _ (n : ℕ) (places : List Bit) (roots : List ClockRoot) where
   slot_free ps a g slot row =
       let at = at_free ps a in
       let one = one_free ps a in
-      let here : SlotPin → List Bit = λ p. bits_at places ps (slot_name slot (suffix p)) in
-      (
+      let here : SlotPin → List Bit = λ p. bits_at places ps (slot_name slot (suffix p)) in (
         (
           one (slot_name slot (suffix pin.ClkEn)),
           (

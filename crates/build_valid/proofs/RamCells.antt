@@ -97,8 +97,7 @@ module _ (shown : RamShowsOnce) (parts : RamHasParts) (lib : Library) (apart : P
   rams_made [] fits = (tt, tt)
   rams_made (c ∷ cs) fits =
       let here = made_by c c.shape fits.0 in
-      let rest = rams_made cs fits.1 in
-      (
+      let rest = rams_made cs fits.1 in (
         each_joined (ram_by c.shape c) (ram_cells cs) (cell_by lib places roots c.name c.shape c.pins) (rams_of lib places roots cs) here.0 rest.0,
         all_join (λ r. All (ComesFrom places roots) (ram_clocks r)) (cell_by lib places roots c.name c.shape c.pins) (rams_of lib places roots cs) here.1 rest.1,
       )

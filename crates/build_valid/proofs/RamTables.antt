@@ -205,13 +205,12 @@ regroup : (before : List (List ℕ)) (n : List ℕ) (ns : List (List ℕ)) → (
 regroup [] n ns = refl
 regroup (m ∷ ms) n ns = ap (λ xs. m ∷ xs) (regroup ms n ns)
 
-new_by_count : (before ns : List (List ℕ)) → ((m : List ℕ) → how_many (bytes_eq m) (before ++ ns) ≤ 1) → AreNew before ns
+pub new_by_count : (before ns : List (List ℕ)) → ((m : List ℕ) → how_many (bytes_eq m) (before ++ ns) ≤ 1) → AreNew before ns
 new_by_count before [] few = tt
-new_by_count before (n ∷ ns) few =
-    (
-      not_true (has before n) (λ e. last_once n before ns (has_some before n e) (few n)),
-      new_by_count (before ++ n ∷ []) ns (λ m. (let all : how_many (bytes_eq m) (before ++ n ∷ ns) ≤ 1 = few m in let same = ap (how_many (bytes_eq m)) (regroup before n ns) in omega (arith, all, same))),
-    )
+new_by_count before (n ∷ ns) few = (
+  not_true (has before n) (λ e. last_once n before ns (has_some before n e) (few n)),
+  new_by_count (before ++ n ∷ []) ns (λ m. (let all : how_many (bytes_eq m) (before ++ n ∷ ns) ≤ 1 = few m in let same = ap (how_many (bytes_eq m)) (regroup before n ns) in omega (arith, all, same))),
+)
 
 pub reads_distinct : (v : Variant) (ss : List SlotRow) → HasPortsApart v → AreDistinct (groups_read v.groups ss)
 reads_distinct v ss apart =

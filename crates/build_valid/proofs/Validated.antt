@@ -185,8 +185,7 @@ pub design_valid : Laws → (doc : Doc) (lib : Library) (design : Design) → Li
 design_valid laws doc lib design fits w b =
     let all = all_built laws lib doc.modules fits w.modules doc.modules design.modules w.modules b in
     let few = w.count in
-    let same = all.long in
-    (
+    let same = all.long in (
       record {
         modules = λ i m at. subst (λ (is : List Interface). IsValid lib is m) (sym all.ports) (each_of (IsValid lib (doc_interfaces doc.modules)) design.modules all.valid_each i m at);
         names = subst (λ (ns : List (List ℕ)). AreApart ns) (sym all.names) (distinct_apart (map module_name doc.modules) w.names);
