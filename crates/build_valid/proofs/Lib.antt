@@ -24,3 +24,4 @@ pub mod RamsValid
 pub mod SlotCount
 pub mod Validated
 pub mod Counted
+pub mod Reading

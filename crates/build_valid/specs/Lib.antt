@@ -4,3 +4,4 @@ pub mod Cells
 pub mod Inouts
 pub mod Documents
 pub mod Whole
+pub mod ReadLibraries

@@ -5,5 +5,6 @@
 pub mod cells;
 pub mod documents;
 pub mod inouts;
+pub mod libraries;
 pub mod sound;
 pub mod whole;
