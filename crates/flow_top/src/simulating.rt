@@ -46,7 +46,7 @@ fn read_subject<D: Desk>(
 }
 
 /// Reads the netlist, the library and the stimulus, and makes the text of the traces. It writes no file.
-fn trace_text<D: Desk, R: Threads + Sync>(
+fn make_trace<D: Desk, R: Threads + Sync>(
     rt: &R,
     alloc: Global,
     command: SimCommand<'_>,
@@ -58,10 +58,17 @@ fn trace_text<D: Desk, R: Threads + Sync>(
     ensures reads_later { D.read_faults desk.old ≤ D.read_faults desk.new }
     ensures writes_later { D.write_faults desk.old ≤ D.write_faults desk.new }
 {
-    let Subject { library, module } = read_subject(alloc, command, desk)?;
+    let subject = read_subject(alloc, command, desk)?;
     let stimulus = read(alloc, command.stimulus, desk)?;
-    let events = find_events(alloc, stimulus.as_slice(), &module)?;
-    let text = find_traces(rt, alloc, &module, &library, &events, command.seeds)?;
+    let events = find_events(alloc, stimulus.as_slice(), &subject.module)?;
+    let text = find_traces(
+        rt,
+        alloc,
+        &subject.module,
+        &subject.library,
+        &events,
+        command.seeds,
+    )?;
     Ok(text)
 }
 
@@ -74,7 +81,7 @@ pub fn simulate<D: Desk, R: Threads + Sync>(
 ) -> Status
     ensures { Outcome (AskedSim (sim_files_of command.entry)) (look_of D.files D.read_faults D.write_faults desk.old) (look_of D.files D.read_faults D.write_faults desk.new) result }
 {
-    let text = match trace_text(rt, alloc, command, desk) {
+    let text = match make_trace(rt, alloc, command, desk) {
         Ok(text) => text,
         Err(status) => return status,
     };
