@@ -17,7 +17,7 @@ fn has_one(bits: &[Tri]) -> bool
 fn marks_top(attr: &Attr) -> bool
     ensures { result ≡ spec.marks_top attr.now }
 {
-    attr.name.as_slice() == b"\\top" && has_one(attr.bits.as_slice())
+    attr.name.as_slice() == b"\\top".as_slice() && has_one(attr.bits.as_slice())
 }
 
 fn any_marks_top(attrs: &[Attr]) -> bool
