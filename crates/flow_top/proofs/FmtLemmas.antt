@@ -17,7 +17,7 @@ use Rattle.flow_top.specs.Statuses.{status_of_write}
 use Rattle.flow_top.specs.Texts.{put_all}
 use Rattle.flow_top.specs.WriteStops.{WriteStops}
 use Rattle.flow_top.specs.declared.status.Status.{Status}
-use Rattle.flow_top.specs.declared.status.Status.TheVariants.{Ok, Usage, ReadFault, WriteFault, Design, Library, NoFit, Limit, Memory}
+use Rattle.flow_top.specs.declared.status.Status.TheVariants.{Ok, Usage, ReadFault, WriteFault, Design, Library, NoFit, Limit, Memory, Stimulus}
 use Rattle.flow_top.proofs.OutcomeLemmas.{told_is, too_long, short_read}
 
 -- the status of a text's fault stops the command
@@ -67,6 +67,7 @@ fmt_stopped asked before after Usage stopped stay = absurd stopped
 fmt_stopped asked before after WriteFault stopped stay = absurd stopped
 fmt_stopped asked before after (Library line_number code) stopped stay = absurd stopped
 fmt_stopped asked before after (NoFit inside memory) stopped stay = absurd stopped
+fmt_stopped asked before after (Stimulus line_number code) stopped stay = absurd stopped
 fmt_stopped asked before after Memory stopped stay = fmt_memory asked before after stay
 fmt_stopped asked before after ReadFault stopped stay =
     record {

@@ -14,7 +14,7 @@ use Rattle.lib_read.specs.Reads.{LibReads}
 use Rattle.map_flow.specs.Maps.{IsRefused}
 use Rattle.map_flow.specs.declared.refusal.MapRefusal.{MapRefusal}
 use Rattle.map_flow.specs.declared.refusal.MapRefusal.TheVariants as refusal
-use Rattle.flow_top.specs.Outcome.{Outcome, Look, MapReads, MapWrites, MapStops, MapDesignIsNone, MapLibraryIsNone, MapRefuses, MapFits, HasLongFile, HasLongCause, HasText, HasLimitCause, HasRefusalCause}
+use Rattle.flow_top.specs.Outcome.{Outcome, Look, MapReads, MapWrites, MapStops, MapDesignIsNone, MapLibraryIsNone, MapRefuses, MapFits, HasLongFile, HasLongCause, HasLimitCause, HasRefusalCause}
 use Rattle.flow_top.specs.Refusing.{map_status}
 use Rattle.flow_top.specs.Preparing.{Stopped, Prepared}
 use Rattle.flow_top.specs.RefusalLine.{Refused, LineLeft, refusal_line}
@@ -26,7 +26,7 @@ use Rattle.flow_top.specs.declared.status.Counted.{Counted}
 use Rattle.flow_top.specs.declared.status.DesignCode.{DesignCode}
 use Rattle.lib_tree.specs.declared.fault.LibCode.{LibCode}
 use Rattle.flow_top.specs.declared.status.Status.{Status}
-use Rattle.flow_top.specs.declared.status.Status.TheVariants.{Ok, Usage, ReadFault, WriteFault, Design, Library, NoFit, Limit, Memory}
+use Rattle.flow_top.specs.declared.status.Status.TheVariants.{Ok, Usage, ReadFault, WriteFault, Design, Library, NoFit, Limit, Memory, Stimulus}
 
 pub same_Some : {A : Type 0} (a b : A) → Some a ≡ Some b → a ≡ b
 same_Some a b e = cc
@@ -249,6 +249,7 @@ pub outcome_stopped : (asked : MapFiles) (before after : Look) (reads writes : �
 outcome_stopped asked before after reads writes Ok result stopped refused later reads_later = absurd stopped
 outcome_stopped asked before after reads writes Usage result stopped refused later reads_later = absurd stopped
 outcome_stopped asked before after reads writes WriteFault result stopped refused later reads_later = absurd stopped
+outcome_stopped asked before after reads writes (Stimulus line_number code) result stopped refused later reads_later = absurd stopped
 outcome_stopped asked before after reads writes ReadFault result stopped refused later reads_later =
     subst (λ s. Outcome (Map asked) before after s) (sym refused.0) (outcome_read_fault asked before after refused.1 (omega (arith, stopped, reads_later)))
 outcome_stopped asked before after reads writes Memory result stopped refused later reads_later =

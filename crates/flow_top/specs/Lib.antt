@@ -9,6 +9,8 @@ pub mod Preparing
 pub mod Reading
 pub mod Refusing
 pub mod RefusalLine
+pub mod Simulating
+pub mod SimStopping
 pub mod Statuses
 pub mod Texts
 pub mod TextsOf

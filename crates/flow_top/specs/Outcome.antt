@@ -14,15 +14,16 @@ use Rattle.map_flow.specs.Maps.{IsMapped, IsRefused}
 use Rattle.map_flow.specs.declared.map.Made.{Made}
 use Rattle.map_flow.specs.declared.refusal.MapRefusal.{MapRefusal}
 use Rattle.map_flow.specs.declared.refusal.MapRefusal.TheVariants as refusal
-use Rattle.flow_top.specs.Asked.{Asked, MapFiles, Map, FmtFiles, Fmt}
-use Rattle.flow_top.specs.Reading.{TellsFault}
+use Rattle.flow_top.specs.Asked.{Asked, MapFiles, Map, FmtFiles, Fmt, SimFiles, Sim}
+use Rattle.flow_top.specs.Reading.{TellsFault, HasText}
 use Rattle.flow_top.specs.declared.status.Counted.{Counted}
+use Rattle.flow_top.specs.Simulating.{SimWrites, SimStops, SimFits, HasLongInput}
 use Rattle.flow_top.specs.Refusing.{TellsLibraryFault, TellsRefusal}
 use Rattle.flow_top.specs.RefusalLine.{refusal_line, LineLeft}
 use Rattle.flow_top.specs.Texts.{put_all, WroteSome, BrokeOff}
 use Rattle.flow_top.specs.declared.status.Counted.TheVariants as counted
 use Rattle.flow_top.specs.declared.status.Status.{Status}
-use Rattle.flow_top.specs.declared.status.Status.TheVariants.{Ok, Usage, ReadFault, WriteFault, Design, Library, NoFit, Limit, Memory}
+use Rattle.flow_top.specs.declared.status.Status.TheVariants.{Ok, Usage, ReadFault, WriteFault, Design, Library, NoFit, Limit, Memory, Stimulus}
 
 -- what clauses see of a desk: its files, where it tells them, and its two counts of faults
 pub record Look : Type 0 where
@@ -66,11 +67,13 @@ pub record FmtWrites (asked : FmtFiles) (told : Option Files) (texts : List (Lis
 abbrev pub MayWrite : Asked → Option Files → List (List ℕ × List ℕ) → Type 0
 MayWrite (Map asked) told texts = MapWrites asked told texts
 MayWrite (Fmt asked) told texts = FmtWrites asked told texts
+MayWrite (Sim asked) told texts = SimWrites asked told texts
 
 -- a file that a command reads
 abbrev pub ReadsFile : Asked → List ℕ → Type 0
 ReadsFile (Map asked) name = (name ≡ asked.design) ⊎ (name ≡ asked.library)
 ReadsFile (Fmt asked) name = name ≡ asked.design
+ReadsFile (Sim asked) name = (name ≡ asked.netlist) ⊎ ((name ≡ asked.library) ⊎ (name ≡ asked.stimulus))
 
 -- a limit is told of a file that passes it
 abbrev pub HasLongCause : Asked → Option Files → Counted → ℕ → Type 0
@@ -115,6 +118,7 @@ MapStops asked told status = MapDesignIsNone asked told status ⊎ (MapLibraryIs
 abbrev pub HasLimitCause : Asked → Option Files → Status → Type 0
 HasLimitCause (Map asked) told (Limit counts seen) = HasLongCause (Map asked) told counts seen ⊎ MapStops asked told (Limit counts seen)
 HasLimitCause (Fmt asked) told (Limit counts seen) = HasLongCause (Fmt asked) told counts seen ⊎ FmtReadsNone asked told (Limit counts seen)
+HasLimitCause (Sim asked) told (Limit counts seen) = HasLongCause (Sim asked) told counts seen ⊎ SimStops asked told (Limit counts seen)
 HasLimitCause asked told other = ⊤
 
 -- a refusal has its cause in what was read
@@ -122,15 +126,22 @@ abbrev pub HasRefusalCause : Asked → Option Files → Status → Type 0
 HasRefusalCause (Map asked) told (Design inside name line code) = MapStops asked told (Design inside name line code)
 HasRefusalCause (Map asked) told (Library line code) = MapStops asked told (Library line code)
 HasRefusalCause (Map asked) told (NoFit inside memory) = MapStops asked told (NoFit inside memory)
+HasRefusalCause (Map asked) told (Stimulus line code) = ⊥
 HasRefusalCause (Fmt asked) told (Design inside name line code) = FmtReadsNone asked told (Design inside name line code)
 HasRefusalCause (Fmt asked) told (Library line code) = ⊥
 HasRefusalCause (Fmt asked) told (NoFit inside memory) = ⊥
+HasRefusalCause (Fmt asked) told (Stimulus line code) = ⊥
+HasRefusalCause (Sim asked) told (Design inside name line code) = SimStops asked told (Design inside name line code)
+HasRefusalCause (Sim asked) told (Library line code) = SimStops asked told (Library line code)
+HasRefusalCause (Sim asked) told (NoFit inside memory) = ⊥
+HasRefusalCause (Sim asked) told (Stimulus line code) = SimStops asked told (Stimulus line code)
 HasRefusalCause asked told other = ⊤
 
 -- where a refusal leaves its line, if it leaves one, and other files stay
 abbrev pub LeavesLine : Asked → Look → Look → Status → Type 0
 LeavesLine (Map asked) before after status = LineLeft before.files after.files asked.report (refusal_line status) before.writes after.writes
 LeavesLine (Fmt asked) before after status = after.files ≡ before.files
+LeavesLine (Sim asked) before after status = after.files ≡ before.files
 
 -- what files hold at each status
 abbrev pub FilesAfter : Asked → Look → Look → Status → Type 0
@@ -169,6 +180,7 @@ pub record FmtFits (asked : FmtFiles) (files : Files) : Type 0 where
 abbrev pub Fits : Asked → Files → Type 0
 Fits (Map asked) files = MapFits asked files
 Fits (Fmt asked) files = FmtFits asked files
+Fits (Sim asked) files = SimFits asked files
 
 -- nothing is in the way of a command
 pub record IsFree (asked : Asked) (before after : Look) (files : Files) : Type 0 where
@@ -192,12 +204,6 @@ IsStop ReadFault = ⊤
 IsStop Memory = ⊤
 IsStop other = ⊥
 
--- the bytes read as a document within the limits
-pub record HasText (bytes : List ℕ) : Type 0 where
-  pub doc : Doc
-  pub reads : Reads bytes doc
-  pub within : IsWithinLimits bytes doc
-
 pub record HasLongFile (asked : MapFiles) (files : Files) : Type 0 where
   pub design : List ℕ
   pub design_there : get files asked.design ≡ Some design
@@ -211,6 +217,7 @@ pub record HasLongText (asked : FmtFiles) (files : Files) : Type 0 where
 abbrev pub StopsAtLongFile : Asked → Look → Status → Type 0
 StopsAtLongFile (Map asked) before status = (files : Files) → before.files ≡ Some files → HasLongFile asked files → IsStop status
 StopsAtLongFile (Fmt asked) before status = (files : Files) → before.files ≡ Some files → HasLongText asked files → IsStop status
+StopsAtLongFile (Sim asked) before status = (files : Files) → before.files ≡ Some files → HasLongInput asked files → IsStop status
 
 -- all that holds of a command that was understood
 pub record Outcome (asked : Asked) (before after : Look) (status : Status) : Type 0 where

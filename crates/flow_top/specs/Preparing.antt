@@ -7,7 +7,7 @@ use Rattle.map_flow.specs.Maps.{IsMapped}
 use Rattle.flow_top.specs.Outcome.{MapReads, HasLimitCause, HasRefusalCause}
 use Rattle.map_flow.specs.declared.map.Made.{Made}
 use Rattle.flow_top.specs.declared.status.Status.{Status}
-use Rattle.flow_top.specs.declared.status.Status.TheVariants.{Ok, Usage, ReadFault, WriteFault, Design, Library, NoFit, Limit, Memory}
+use Rattle.flow_top.specs.declared.status.Status.TheVariants.{Ok, Usage, ReadFault, WriteFault, Design, Library, NoFit, Limit, Memory, Stimulus}
 
 -- the texts of the design and the library that were read
 pub record Prepared (asked : MapFiles) (told : Option Files) (made : Made) : Type 0 where
@@ -25,3 +25,4 @@ Stopped asked told before now (Design inside name line code) = HasRefusalCause (
 Stopped asked told before now (Library line code) = HasRefusalCause (Map asked) told (Library line code)
 Stopped asked told before now (NoFit inside memory) = HasRefusalCause (Map asked) told (NoFit inside memory)
 Stopped asked told before now Memory = ⊤
+Stopped asked told before now (Stimulus line code) = ⊥

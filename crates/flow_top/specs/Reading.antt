@@ -45,3 +45,9 @@ pub record TellsFault (bytes : List ℕ) (status : Status) : Type 0 where
 
 abbrev pub RefusesText : List ℕ → Status → Type 0
 RefusesText bytes status = (status ≡ Memory) ⊎ TellsFault bytes status
+
+-- the bytes read as a document within the limits
+pub record HasText (bytes : List ℕ) : Type 0 where
+  pub doc : Doc
+  pub reads : Reads bytes doc
+  pub within : IsWithinLimits bytes doc

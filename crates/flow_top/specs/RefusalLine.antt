@@ -15,8 +15,10 @@ use Rattle.net_wires.specs.declared.breach.BuildCode.{BuildCode}
 use Rattle.net_wires.specs.declared.breach.BuildCode.TheVariants as build
 use Rattle.mem_collect.specs.declared.fault.CollectCode.{CollectCode}
 use Rattle.mem_collect.specs.declared.fault.CollectCode.TheVariants as collect
+use Rattle.stim_text.specs.declared.fault.StimCode.{StimCode}
+use Rattle.stim_text.specs.declared.fault.StimCode.TheVariants as stimulus
 use Rattle.flow_top.specs.declared.status.Status.{Status}
-use Rattle.flow_top.specs.declared.status.Status.TheVariants.{Ok, Usage, ReadFault, WriteFault, Design, Library, NoFit, Limit, Memory}
+use Rattle.flow_top.specs.declared.status.Status.TheVariants.{Ok, Usage, ReadFault, WriteFault, Design, Library, NoFit, Limit, Memory, Stimulus}
 
 -- the number of a text's fault; want of memory is told as such, and never as a fault of the text
 abbrev pub text_fault : TextCode → ℕ
@@ -69,16 +71,26 @@ library_fault library.BadNumber = 8
 library_fault library.Limit = 9
 library_fault library.Memory = 10
 
+-- the number of a stimulus's fault
+abbrev pub stimulus_fault : StimCode → ℕ
+stimulus_fault stimulus.Line = 1
+stimulus_fault stimulus.Width = 2
+stimulus_fault stimulus.Clock = 3
+stimulus_fault stimulus.Limit = 4
+stimulus_fault stimulus.Memory = 5
+
 -- the number of the fault in a status, 0 where it has none
 abbrev pub fault_of : Status → ℕ
 fault_of (Design inside name line code) = design_fault code
 fault_of (Library line code) = library_fault code
+fault_of (Stimulus line code) = stimulus_fault code
 fault_of other = 0
 
 -- the line in a status, 0 where it has none
 abbrev pub line_in : Status → ℕ
 line_in (Design inside name line code) = line
 line_in (Library line code) = line
+line_in (Stimulus line code) = line
 line_in other = 0
 
 -- a name, or - for none
@@ -112,6 +124,7 @@ is_refusal (Library line code) = true
 is_refusal (NoFit inside memory) = true
 is_refusal (Limit counts seen) = true
 is_refusal Memory = false
+is_refusal (Stimulus line code) = true
 
 -- a status that is no refusal is handed on, and nothing is written; a refusal is handed on with its line left, or memory
 -- was wanted for that, and nothing is written

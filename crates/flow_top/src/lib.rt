@@ -9,7 +9,9 @@ mod number;
 mod reading;
 mod refusal;
 mod refusing;
+mod simulating;
 pub mod status;
+mod subject;
 #[cfg(test)]
 mod tests;
 mod texts;

@@ -1,6 +1,6 @@
 //! The line that a refused command leaves.
 ghost use Rattle.std.specs.Prelude.{◌≡◌, ◌⊎◌, ◌≤◌, IfOk};
-ghost use Rattle.flow_top.specs.RefusalLine.{refusal_line, text_fault, build_fault, collect_fault, design_fault, library_fault, name_of, fault_of, line_in, shown_name, is_refusal, LineLeft, Refused};
+ghost use Rattle.flow_top.specs.RefusalLine.{refusal_line, text_fault, build_fault, collect_fault, design_fault, library_fault, stimulus_fault, name_of, fault_of, line_in, shown_name, is_refusal, LineLeft, Refused};
 
 use crate::joining::{decimal, joined};
 use crate::status::{DesignCode, Status};
@@ -10,6 +10,7 @@ use lib_read::LibCode;
 use mem_collect::CollectCode;
 use net_wires::BuildCode;
 use rtlil_text::TextCode;
+use stim_text::StimCode;
 use std::alloc::Global;
 
 /// The number of a text's fault.
@@ -89,6 +90,19 @@ fn library_fault(code: LibCode) -> u64
     }
 }
 
+/// The number of a stimulus's fault.
+fn stimulus_fault(code: StimCode) -> u64
+    ensures { result ≡ stimulus_fault code }
+{
+    match code {
+        StimCode::Line => 1,
+        StimCode::Width => 2,
+        StimCode::Clock => 3,
+        StimCode::Limit => 4,
+        StimCode::Memory => 5,
+    }
+}
+
 /// The number of the fault in a status, 0 where it has none.
 fn fault_of(status: &Status) -> u64
     ensures { result ≡ fault_of status.now }
@@ -96,6 +110,7 @@ fn fault_of(status: &Status) -> u64
     match status {
         Status::Design { code, .. } => design_fault(*code),
         Status::Library { code, .. } => library_fault(*code),
+        Status::Stimulus { code, .. } => stimulus_fault(*code),
         _ => 0,
     }
 }
@@ -107,6 +122,7 @@ fn line_in(status: &Status) -> u32
     match status {
         Status::Design { line, .. } => *line,
         Status::Library { line, .. } => *line,
+        Status::Stimulus { line, .. } => *line,
         _ => 0,
     }
 }
@@ -158,7 +174,11 @@ fn is_refusal(status: &Status) -> bool
 {
     matches!(
         status,
-        Status::Design { .. } | Status::Library { .. } | Status::NoFit { .. } | Status::Limit { .. }
+        Status::Design { .. }
+            | Status::Library { .. }
+            | Status::NoFit { .. }
+            | Status::Limit { .. }
+            | Status::Stimulus { .. }
     )
 }
 

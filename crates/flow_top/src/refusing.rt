@@ -47,7 +47,7 @@ pub fn read_ram_text(alloc: Global, bytes: &[u8]) -> Result<Library, Status>
 }
 
 /// The status of a document that means no design.
-fn build_status(fault: BuildFault) -> Status
+pub fn build_status(fault: BuildFault) -> Status
     ensures { result ≡ spec.build_status fault }
 {
     match fault.code {
@@ -66,7 +66,7 @@ fn build_status(fault: BuildFault) -> Status
 }
 
 /// The status of memory cells that make no memories.
-fn collect_status(fault: DesignFault) -> Status
+pub fn collect_status(fault: DesignFault) -> Status
     ensures { result ≡ spec.collect_status fault }
 {
     match fault.fault.code {

@@ -7,6 +7,7 @@ use lib_read::LibCode;
 use mem_collect::CollectCode;
 use net_wires::BuildCode;
 use rtlil_text::TextCode;
+use stim_text::StimCode;
 
 /// What is wrong with a design.
 #[derive(Clone, Copy, Debug, PartialEq, Eq)]
@@ -73,6 +74,11 @@ pub enum Status {
     },
     /// Memory could not be had.
     Memory,
+    /// The stimulus was refused.
+    Stimulus {
+        line: u32,
+        code: StimCode,
+    },
 }
 
 impl Status {
@@ -90,6 +96,7 @@ impl Status {
             Status::NoFit { .. } => 7,
             Status::Limit { .. } => 8,
             Status::Memory => 9,
+            Status::Stimulus { .. } => 10,
         }
     }
 }

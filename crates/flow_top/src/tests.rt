@@ -6,6 +6,7 @@ use std::alloc::{AllocError, Global};
 use std::test::Fail;
 
 mod cells;
+mod sim;
 
 /// A memory of words with one write port and one read port.
 #[derive(Clone, Copy)]

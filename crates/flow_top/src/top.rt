@@ -8,6 +8,7 @@ ghost use Rattle.flow_top.specs.Outcome.{Outcome, look_of, HasLimitCause, HasRef
 use crate::command::{Command, parse};
 use crate::formatting::format_text;
 use crate::mapping::map;
+use crate::simulating::simulate;
 use crate::status::Status;
 use flow_io::Desk;
 use std::alloc::Global;
@@ -20,6 +21,9 @@ use std::thread::Threads;
 /// a number from 1 to 64.
 ///
 /// `fmt DESIGN OUT` reads a design's text and writes the printed text of the same document.
+///
+/// `sim NETLIST LIBRARY STIMULUS TRACE SEEDS` reads a netlist, its RAM library and a stimulus, and
+/// writes the traces of the netlist's top module for the seeds from 0 on. SEEDS is a number from 1 to 16.
 ///
 /// Any other list of words is `Usage`.
 pub fn run<D: Desk, R: Threads + Sync>(
@@ -54,7 +58,7 @@ pub fn run<D: Desk, R: Threads + Sync>(
 
 /// Does a command.
 fn perform<D: Desk, R: Threads + Sync>(
-    _rt: &R,
+    rt: &R,
     alloc: Global,
     command: Command<'_>,
     desk: &mut D,
@@ -64,5 +68,6 @@ fn perform<D: Desk, R: Threads + Sync>(
     match command {
         Command::Map(command) => map(alloc, command, desk),
         Command::Fmt(command) => format_text(alloc, command, desk),
+        Command::Sim(command) => simulate(rt, alloc, command, desk),
     }
 }

@@ -1,3 +1,4 @@
 mod Digits
 mod Rooting
 mod Placing
+mod Wholeness

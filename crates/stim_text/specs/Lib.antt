@@ -1,3 +1,4 @@
 pub mod Spoken
 pub mod Inputs
 pub mod Stimulus
+pub mod Whole

@@ -1,1 +1,5 @@
+mod Capping
+mod Digits
+mod Sizes
 mod Spelled
+mod Texts

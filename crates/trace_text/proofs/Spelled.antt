@@ -2,7 +2,6 @@
 use Rattle.std.proofs.Common.{◌≡◌, ℕ, ◌+◌, ◌-◌, ◌<◌, ◌≤◌, Bool, List, [], ◌∷◌, ◌++◌, length, map, take, drop, get_or, sym, ap, ◌∙◌, arith, append_assoc}
 use Rattle.std.specs.List.{flat_map}
 use Rattle.std.proofs.Math.Seq.{take-length}
-use Rattle.std.specs.Prelude.{reverse}
 use Rattle.std.proofs.lemmas.List.{take_more, reverse-append}
 use Rattle.net_core.specs.declared.cells.Carried.{Carried}
 use Rattle.trace_text.specs.declared.rows.Row.{Row}
@@ -13,7 +12,7 @@ digits_more bits i d h =
     ap digits (take_more bits i d h) ∙ ap (map digit) (reverse-append (take i bits) (get_or bits i d ∷ []))
 
 -- a list with an item is its first one and the others
-front : {X : Type 0} (xs : List X) (x : X) → 1 ≤ length xs → x ≡ get_or xs 0 x → xs ≡ x ∷ take (length xs - 1) (drop 1 xs)
+pub front : {X : Type 0} (xs : List X) (x : X) → 1 ≤ length xs → x ≡ get_or xs 0 x → xs ≡ x ∷ take (length xs - 1) (drop 1 xs)
 front [] x h e = absurd (omega (arith, h))
 front (y ∷ ys) x h e =
     let k : length (y ∷ ys) - 1 ≡ length ys = omega arith in

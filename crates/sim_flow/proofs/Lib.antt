@@ -1,0 +1,4 @@
+mod Counted
+mod Found
+mod Tested
+mod Traced

@@ -1,0 +1,30 @@
+-- What is tested of a module before it is simulated.
+use Rattle.std.specs.Prelude.{◌≡◌, ℕ, ◌<◌, ◌^◌, Bool, true, false, ◌&&◌, List, length, Option, Some, None, nat_lt, slice_get}
+use Rattle.lib_core.specs.declared.library.Library.{Library}
+use Rattle.lib_core.specs.declared.library.Variant.{Variant}
+use Rattle.net_core.specs.declared.rams.RamCell.{RamCell}
+use Rattle.net_core.specs.declared.modules.Module.{Module}
+use Rattle.net_core.specs.Nodes.{HasNet, nodes_of}
+use Rattle.net_core.specs.Ports.{inputs_of, outputs_of}
+use Rattle.net_core.specs.Runs.{variant_of}
+use Rattle.net_core.specs.Shape.{fits_library}
+use Rattle.net_core.specs.Valid.{IsCounted}
+
+abbrev pub some_widths : Option Variant → Bool
+some_widths None = false
+some_widths (Some x) = nat_lt 0 (length x.widths)
+
+-- the cell has the shape of its variant, which has a width, and its slots can be numbered
+abbrev pub ram_runs : Library → RamCell → Bool
+ram_runs lib c = fits_library lib c && (nat_lt (length c.slots) 4294967295 && some_widths (variant_of lib c))
+
+-- numbers of 32 bits can name the parts of the module
+pub record HasCounts (m : Module) : Type 0 where
+  pub few_nodes : length (nodes_of m) < 2 ^ 32
+  pub few_mems : IsCounted m.mems
+  pub few_rams : IsCounted m.rams
+
+-- the ports have nets of the module alone
+pub record HasPorts (m : Module) : Type 0 where
+  pub inputs : (k n : ℕ) → slice_get (inputs_of m) k ≡ Some n → n < m.nets
+  pub outputs : (n : ℕ) → HasNet (outputs_of m) n → n < m.nets
