@@ -1,11 +1,9 @@
 -- The bits and the clocks of places agree with what connects alone tell.
-use Rattle.std.proofs.Common.{◌≡◌, ℕ, zero, suc, ◌+◌, ◌≤◌, ◌<◌, Bool, true, false, not, ◌&&◌, List, [], ◌∷◌, ◌++◌, length, get_or, replicate, Some, slice_get, refl, sym, ap, ◌∙◌, subst, arith}
+use Rattle.std.proofs.Common.{◌≡◌, ℕ, zero, suc, ◌≤◌, ◌<◌, Bool, true, false, not, ◌&&◌, List, [], ◌∷◌, length, get_or, Some, slice_get, refl, subst, arith}
 use Rattle.std.specs.Prelude.{if◌then◌else◌, nat_lt}
 use Rattle.std.specs.List.{flat_map}
 use Rattle.std.proofs.lemmas.Bool.Decides.{nat_tests}
 use Rattle.std.proofs.lemmas.Option.{get_or_from_slice_get, slice_get-get_or}
-use Rattle.lib_core.specs.declared.library.Library.{Library}
-use Rattle.rtlil_text.specs.declared.doc.DocModule.{DocModule}
 use Rattle.rtlil_text.specs.declared.doc.Item.{Item}
 use Rattle.rtlil_text.specs.Grammar.{All}
 use Rattle.net_core.specs.declared.bits.Bit.{Bit}
@@ -23,7 +21,6 @@ use Rattle.net_wires.specs.Clocks.{AreClocks, IsConstant, tied_digits}
 use Rattle.net_wires.specs.Links.{links_of, PairsWithin, SourcesWithin}
 use Rattle.net_wires.specs.Nets.{Resolves, Solves}
 use Rattle.net_wires.specs.Numbers.{nets}
-use Rattle.net_wires.specs.Spans.{There, wire_bits}
 use Rattle.net_wires.specs.Ties.{is_end, IsInside, Leads}
 use Rattle.net_wires.proofs.OneClock.{one_clock}
 use Rattle.net_wires.proofs.Ready.{length_links, links_in}

@@ -1,5 +1,5 @@
 -- What it says of a module that its lists of faults are empty.
-use Rattle.std.proofs.Common.{◌≡◌, ℕ, zero, suc, ◌+◌, ◌<◌, Bool, true, false, cond, List, [], ◌∷◌, ◌++◌, map, length, Option, Some, slice_get, refl, sym, ap, ◌∙◌, arith}
+use Rattle.std.proofs.Common.{◌≡◌, ℕ, zero, suc, ◌+◌, Bool, true, false, cond, List, [], ◌∷◌, ◌++◌, map, Option, Some, slice_get, refl, sym}
 use Rattle.std.specs.Prelude.{if◌then◌else◌}
 use Rattle.std.specs.List.{list_any}
 use Rattle.std.specs.Str.{bytes_eq}
@@ -10,14 +10,11 @@ use Rattle.rtlil_text.specs.declared.doc.DocModule.{DocModule}
 use Rattle.rtlil_text.specs.Grammar.{module_name}
 use Rattle.net_core.specs.Valid.{instance_of, is_there}
 use Rattle.cell_rows.specs.Kinds.{place_from, place_of}
-use Rattle.net_wires.specs.declared.clock.ClockRoot.{ClockRoot}
 use Rattle.net_wires.specs.Drivers.{has_conflict}
 use Rattle.net_wires.specs.Nets.{HasNoRing}
-use Rattle.net_wires.specs.Ties.{Marks}
 use Rattle.net_gather.specs.Faces.{doc_interface, doc_interfaces}
 use Rattle.net_gather.specs.Gather.{faults_of}
-use Rattle.net_checks.specs.declared.fault.ModuleFault.{ModuleFault}
-use Rattle.net_checks.specs.Checks.{checks_of, module_inouts, module_links, ring_faults}
+use Rattle.net_checks.specs.Checks.{module_inouts, module_links, ring_faults}
 use Rattle.net_checks.specs.ClockPins.{clock_faults}
 use Rattle.net_checks.specs.Driven.{driven, driver_faults}
 use Rattle.net_build.specs.Faults.{AreChecked, IsFaultless}

@@ -41,7 +41,7 @@ use Rattle.net_cells.specs.Clocks.{clock_bit}
 use Rattle.net_cells.specs.Parts.{clock_bits, part_of, part_pins}
 use Rattle.net_module.specs.Assembly.{comb_by, combs_of, module_of, part_by, parts_of, ram_by, ram_under, rams_of, reg_by, regs_of}
 use Rattle.net_fits.specs.Rams.{is_this}
-use Rattle.net_fits.proofs.Lists.{all_flat, all_join, all_map}
+use Rattle.net_fits.proofs.Lists.{all_join}
 
 module _ (n : ℕ) (places : List Bit) (roots : List ClockRoot) where
   -- the bit is another one than the net, and so is what stands there as a bit or as a clock

@@ -1,9 +1,8 @@
 -- The bits of inout wires and of inout pins stand at the places of inouts, and the bits of wires at places of their own.
-use Rattle.std.proofs.Common.{◌≡◌, ◌⊎◌, inl, inr, ℕ, zero, suc, ◌+◌, ◌≤◌, ◌<◌, Bool, true, false, cond, ◌&&◌, ◌||◌, List, [], ◌∷◌, ◌++◌, map, take, drop, Some, slice_get, refl, sym, ap, ◌∙◌, subst, arith}
+use Rattle.std.proofs.Common.{◌≡◌, ◌⊎◌, inl, inr, ℕ, zero, suc, ◌+◌, ◌<◌, Bool, true, false, cond, ◌&&◌, ◌||◌, List, [], ◌∷◌, ◌++◌, take, drop, Some, slice_get, refl, sym, ap, ◌∙◌, arith}
 use Rattle.std.specs.Prelude.{if◌then◌else◌, filter, ◌==◌}
 use Rattle.std.specs.List.{flat_map, list_any}
 use Rattle.std.proofs.lemmas.Bool.Decides.{nat_tests}
-use Rattle.std.proofs.lemmas.Option.{get_or_from_slice_get, same_Some}
 use Rattle.rtlil_text.specs.declared.doc.DocWire.{DocWire}
 use Rattle.rtlil_text.specs.declared.doc.Item.{Item}
 use Rattle.rtlil_text.specs.declared.doc.Item.TheVariants as item
@@ -19,7 +18,6 @@ use Rattle.net_wires.specs.declared.source.Source.TheVariants as source
 use Rattle.net_wires.specs.Drivers.{is_place}
 use Rattle.net_wires.specs.Nets.{bit_of}
 use Rattle.net_wires.specs.Signals.{run_bits}
-use Rattle.net_gather.specs.Laws.{numbers_from}
 use Rattle.raw_cells.specs.declared.raw.CellShape.{CellShape}
 use Rattle.raw_cells.specs.declared.raw.CellShape.TheVariants as shape
 use Rattle.raw_cells.specs.declared.raw.RawCell.{RawCell}

@@ -1,5 +1,5 @@
 -- Where no inout stands in a connect or in a pin of a cell that is taken apart, nothing touches the places of inouts.
-use Rattle.std.proofs.Common.{◌≡◌, ℕ, ◌+◌, Bool, true, false, cond, ◌||◌, List, [], ◌∷◌, ◌++◌, drop, Option, Some, None, slice_get, codes, refl, sym, subst}
+use Rattle.std.proofs.Common.{◌≡◌, ℕ, ◌+◌, Bool, true, false, cond, ◌||◌, List, [], ◌∷◌, ◌++◌, drop, Option, Some, slice_get, codes, refl, subst}
 use Rattle.std.specs.Prelude.{if◌then◌else◌}
 use Rattle.std.specs.List.{flat_map, list_any}
 use Rattle.std.specs.Str.{bytes_eq}
@@ -8,8 +8,6 @@ use Rattle.rtlil_text.specs.declared.doc.Item.{Item}
 use Rattle.rtlil_text.specs.declared.doc.Item.TheVariants as item
 use Rattle.rtlil_text.specs.Grammar.{All}
 use Rattle.net_core.specs.declared.mems.Attr.{Attr}
-use Rattle.cell_rows.specs.declared.comb.CombRow.{CombRow}
-use Rattle.net_wires.specs.declared.clock.Drive.{Drive}
 use Rattle.net_wires.specs.declared.clock.Drive.TheVariants as drive
 use Rattle.net_wires.specs.declared.clock.Inverter.{Inverter}
 use Rattle.net_wires.specs.declared.source.Pair.{Pair}

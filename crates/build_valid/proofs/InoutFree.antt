@@ -1,5 +1,5 @@
 -- A net at the place of an inout stands at no pin of the cells that are taken apart.
-use Rattle.std.proofs.Common.{◌≡◌, inl, inr, ℕ, ◌<◌, Bool, true, false, List, [], ◌∷◌, length, get_or, Some, slice_get, refl, sym, ap, ◌∙◌, subst, arith}
+use Rattle.std.proofs.Common.{◌≡◌, inl, inr, ℕ, ◌<◌, Bool, true, false, List, [], ◌∷◌, length, get_or, Some, slice_get, refl, sym, ap, ◌∙◌, arith}
 use Rattle.std.proofs.lemmas.Bool.{cases_lt}
 use Rattle.std.proofs.lemmas.Bool.Decides.{nat_tests}
 use Rattle.std.proofs.lemmas.List.{get_or_past}
@@ -19,7 +19,7 @@ use Rattle.net_wires.specs.declared.source.Source.TheVariants as source
 use Rattle.net_wires.specs.Clocks as clocked
 use Rattle.net_wires.specs.Clocks.{AreClocks, clock_of, LeadsToRoot}
 use Rattle.net_wires.specs.Links.{IsWithin, links_of, PairsWithin, SourcesWithin}
-use Rattle.net_wires.specs.Nets.{bit_of, Resolves}
+use Rattle.net_wires.specs.Nets.{Resolves}
 use Rattle.net_wires.proofs.Ready.{length_links}
 use Rattle.raw_cells.specs.declared.raw.CellShape.{CellShape}
 use Rattle.raw_cells.specs.declared.raw.CellShape.TheVariants as shape
@@ -27,9 +27,9 @@ use Rattle.raw_cells.specs.declared.raw.RawCell.{RawCell}
 use Rattle.raw_cells.specs.declared.raw.RawPin.{RawPin}
 use Rattle.raw_cells.specs.Clocks.{place_bit}
 use Rattle.net_gather.specs.Laws.{CellsWithin}
-use Rattle.net_cells.specs.Clocks.{bit_by, clock_bit}
+use Rattle.net_cells.specs.Clocks.{bit_by}
 use Rattle.net_fits.specs.Rams.{is_this}
-use Rattle.build_valid.proofs.Free.{CellFree, CellsFree, Free, PinsFree, SourceFree}
+use Rattle.build_valid.proofs.Free.{CellFree, CellsFree, PinsFree, SourceFree}
 use Rattle.build_valid.proofs.InoutFaults.{at_inout, CellsOff, Off, ShapeOff}
 use Rattle.build_valid.proofs.Untouched.{alone, leads_alone, links_off, PairsOff}
 

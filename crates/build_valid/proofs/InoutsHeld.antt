@@ -1,5 +1,5 @@
 -- The inouts of a module with nothing wrong stand apart.
-use Rattle.std.proofs.Common.{◌≡◌, inl, inr, ℕ, zero, suc, ◌<◌, Bool, true, false, ◌&&◌, List, [], ◌∷◌, length, get_or, nat_eq, Some, slice_get, refl, sym, ap, ◌∙◌, subst, arith}
+use Rattle.std.proofs.Common.{◌≡◌, inl, inr, ℕ, zero, suc, ◌<◌, Bool, true, false, ◌&&◌, List, [], ◌∷◌, length, nat_eq, Some, slice_get, refl, sym, ap, ◌∙◌, subst, arith}
 use Rattle.std.specs.Prelude.{filter}
 use Rattle.std.specs.List.{flat_map}
 use Rattle.std.proofs.lemmas.Bool.{cases_lt}
@@ -29,7 +29,6 @@ use Rattle.net_gather.specs.declared.gathering.Gathered.{Gathered}
 use Rattle.net_gather.specs.Faces.{doc_interfaces}
 use Rattle.net_gather.specs.Gather.{counts_before, faults_of}
 use Rattle.net_cells.specs.Wires.{wires_from}
-use Rattle.net_checks.specs.declared.inouts.Inouts.{Inouts}
 use Rattle.net_checks.specs.declared.marking.Port.TheVariants as port
 use Rattle.net_checks.specs.Checks.{IsSound}
 use Rattle.net_checks.specs.ClockPins.{clock_drives, digits, places_in, root_bits}
@@ -39,7 +38,6 @@ use Rattle.net_checks.specs.Marks.{port_bits}
 use Rattle.net_module.specs.Assembly.{carried_cells, module_of, rams_of}
 use Rattle.net_build.specs.Faults.{IsFaultless}
 use Rattle.net_build.specs.Means.{context_in, gathered_in, IsWired}
-use Rattle.net_fits.specs.Rams.{is_this}
 use Rattle.net_fits.specs.Written.{IsWritten}
 use Rattle.net_fits.proofs.Lists.{all_then, each_of}
 use Rattle.net_fits.proofs.Sound.{cells_faultless}

@@ -1,15 +1,13 @@
 -- A clock that is flipped comes through an inverter, which stands in the module.
-use Rattle.std.proofs.Common.{◌≡◌, ◌⊎◌, inl, inr, ℕ, zero, suc, ◌<◌, ◌≤◌, Bool, true, false, not, List, [], ◌∷◌, ◌++◌, map, length, get_or, Option, Some, None, slice_get, codes, refl, sym, ap, ◌∙◌, subst, arith}
+use Rattle.std.proofs.Common.{◌≡◌, ◌⊎◌, inl, inr, ℕ, zero, suc, ◌<◌, Bool, true, false, List, [], ◌∷◌, ◌++◌, map, length, get_or, Option, Some, None, slice_get, codes, refl, sym, ap, ◌∙◌, subst, arith}
 use Rattle.std.specs.Prelude.{if◌then◌else◌}
 use Rattle.std.specs.List.{flat_map}
 use Rattle.std.proofs.lemmas.Option.{get_or_from_slice_get, same_Some, slice_get-get_or}
 use Rattle.lib_core.specs.declared.library.EdgeKind.{EdgeKind}
 use Rattle.lib_core.specs.declared.library.EdgeKind.TheVariants as edge
-use Rattle.lib_core.specs.declared.library.Group.{Group}
 use Rattle.lib_core.specs.declared.library.Library.{Library}
 use Rattle.lib_core.specs.declared.library.Tri.{Tri}
 use Rattle.rtlil_text.specs.declared.doc.DocModule.{DocModule}
-use Rattle.rtlil_text.specs.Grammar.{All}
 use Rattle.net_core.specs.declared.bits.Bit.{Bit}
 use Rattle.net_core.specs.declared.bits.Bit.TheVariants as bits
 use Rattle.net_core.specs.declared.cells.Comb.{Comb}
@@ -26,20 +24,18 @@ use Rattle.cell_rows.specs.Operands.{operands}
 use Rattle.cell_rows.specs.Pins.{comb_pins, pins_by}
 use Rattle.net_wires.specs.declared.clock.ClockRoot.{ClockRoot}
 use Rattle.net_wires.specs.declared.clock.ClockRoot.TheVariants as leads
-use Rattle.net_wires.specs.declared.clock.Drive.{Drive}
 use Rattle.net_wires.specs.declared.clock.Inverter.{Inverter}
 use Rattle.net_wires.specs.declared.link.Link.{Link}
-use Rattle.net_wires.specs.declared.link.Link.TheVariants as links
 use Rattle.net_wires.specs.declared.source.Source.{Source}
 use Rattle.net_wires.specs.declared.source.Source.TheVariants as source
-use Rattle.net_wires.specs.Clocks.{AreClocks, clock_of, drives, LeadsToRoot}
+use Rattle.net_wires.specs.Clocks.{AreClocks, drives, LeadsToRoot}
 use Rattle.net_wires.specs.Doubling.{Within}
 use Rattle.net_wires.specs.Nets.{bit_of, Solves}
 use Rattle.raw_cells.specs.declared.raw.CellShape.{CellShape}
 use Rattle.raw_cells.specs.declared.raw.CellShape.TheVariants as shape
 use Rattle.raw_cells.specs.declared.raw.RawCell.{RawCell}
 use Rattle.raw_cells.specs.declared.raw.RawPin.{RawPin}
-use Rattle.raw_cells.specs.Bits.{bits_at, sources_at}
+use Rattle.raw_cells.specs.Bits.{sources_at}
 use Rattle.raw_cells.specs.Clocks.{clock_by, first_root, place_bit, root_clock}
 use Rattle.net_gather.specs.FilePins.{in_table}
 use Rattle.net_gather.specs.Laws.{CellsFit, FitsShape, FitsTable}

@@ -1,7 +1,7 @@
 -- Connects among the first places: more places change nothing for these, and are their own ends.
-use Rattle.std.proofs.Common.{◌≡◌, inl, inr, ℕ, zero, suc, ◌<◌, ◌≤◌, List, [], ◌∷◌, length, get_or, Some, refl, sym, ap, ◌∙◌, subst, arith}
+use Rattle.std.proofs.Common.{◌≡◌, inl, inr, ℕ, zero, suc, ◌<◌, ◌≤◌, List, [], ◌∷◌, length, get_or, Some, refl, sym, ap, ◌∙◌, arith}
 use Rattle.std.specs.Prelude.{slice_get, slice_set}
-use Rattle.std.proofs.lemmas.Bool.{cases_eq, cases_lt}
+use Rattle.std.proofs.lemmas.Bool.{cases_eq}
 use Rattle.std.proofs.lemmas.List.{length-set}
 use Rattle.std.proofs.lemmas.Option.{get_or_from_slice_get, slice_get-get_or}
 use Rattle.net_wires.specs.declared.link.Link.{Link}
@@ -10,7 +10,7 @@ use Rattle.net_wires.specs.declared.source.Pair.{Pair}
 use Rattle.net_wires.specs.declared.source.Source.{Source}
 use Rattle.net_wires.specs.declared.source.Source.TheVariants as source
 use Rattle.net_wires.specs.Links.{IsWithin, link_of, links_of, own, PairsWithin, tie_all, tie_left, tie_pair}
-use Rattle.net_wires.specs.Ties.{AllInside, is_end, IsInside, Leads, onward, walk}
+use Rattle.net_wires.specs.Ties.{IsInside, Leads, onward, walk}
 use Rattle.net_wires.proofs.Driven.{range_at}
 use Rattle.net_wires.proofs.Places.{set_other, set_same}
 use Rattle.net_wires.proofs.Ready.{length_links, links_in}

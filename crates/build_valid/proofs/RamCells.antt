@@ -1,5 +1,5 @@
 -- RAM cells are made of gathered cells, and their clocks come from roots.
-use Rattle.std.proofs.Common.{◌≡◌, ◌≤◌, ℕ, List, [], ◌∷◌, ◌++◌, Option, Some, None, slice_get, refl, arith}
+use Rattle.std.proofs.Common.{◌≡◌, ℕ, List, [], ◌∷◌, ◌++◌, Option, Some, None, slice_get, refl, arith}
 use Rattle.std.specs.List.{flat_map}
 use Rattle.lib_core.specs.declared.library.Library.{Library}
 use Rattle.lib_core.specs.declared.library.RamKind.{RamKind}
@@ -25,7 +25,7 @@ use Rattle.net_module.specs.Assembly.{ram_by as cell_by, ram_under, rams_of}
 use Rattle.net_build.specs.Faults.{IsFaultless}
 use Rattle.net_build.specs.Means.{context_in, gathered_in, IsWired}
 use Rattle.net_fits.specs.Clocks.{ComesFrom}
-use Rattle.net_fits.specs.RamParts.{HasParts, RamHasParts, RamShowsOnce}
+use Rattle.net_fits.specs.RamParts.{RamHasParts, RamShowsOnce}
 use Rattle.net_fits.specs.Rams.{AreRams, EachRamOf, IsRamOf, ram_by, ram_cells}
 use Rattle.net_fits.proofs.Lists.{all_flat, all_join, each_of}
 use Rattle.net_fits.proofs.Sound.{cells_faultless}

@@ -1,6 +1,5 @@
 -- The module has a combinational order, where the nodes of its cells have one.
-use Rattle.std.proofs.Common.{◌≡◌, ℕ, List, [], ◌∷◌, ◌++◌, map, Some, slice_get, refl, sym, subst}
-use Rattle.std.specs.List.{flat_map}
+use Rattle.std.proofs.Common.{ℕ, List, [], ◌∷◌, sym, subst}
 use Rattle.lib_core.specs.declared.library.Library.{Library}
 use Rattle.rtlil_text.specs.declared.doc.DocModule.{DocModule}
 use Rattle.rtlil_text.specs.Grammar.{All}

@@ -1,8 +1,7 @@
 -- A library that a text reads as, within the limits of a reader, is such as the laws of RAM cells take it.
-use Rattle.std.proofs.Common.{◌≡◌, ℕ, zero, suc, ◌+◌, ◌*◌, ◌-◌, ◌^◌, ◌≤◌, ◌<◌, Bool, true, false, cond, not, ◌&&◌, ◌||◌, List, [], ◌∷◌, ◌++◌, map, take, drop, length, get_or, Option, Some, None, slice_get, refl, sym, ap, ◌∙◌, subst, arith}
-use Rattle.std.specs.Prelude.{◌==◌}
+use Rattle.std.proofs.Common.{◌≡◌, ℕ, zero, suc, ◌+◌, ◌*◌, ◌-◌, ◌≤◌, ◌<◌, Bool, true, false, cond, ◌&&◌, ◌||◌, List, [], ◌∷◌, ◌++◌, map, take, drop, length, Option, Some, None, refl, sym, ap, ◌∙◌, subst, arith}
 use Rattle.std.specs.List as std_list
-use Rattle.std.specs.List.{flat_map, list_all, list_any}
+use Rattle.std.specs.List.{flat_map, list_all}
 use Rattle.std.specs.Str.{bytes_eq}
 use Rattle.std.proofs.lemmas.Bool.Decides.{nat_tests}
 use Rattle.std.proofs.lemmas.Option.{get_or_from_slice_get, same_Some, slice_get_within}
@@ -22,14 +21,14 @@ use Rattle.lib_tree.specs.declared.statement.Setting.TheVariants as setting
 use Rattle.lib_tree.specs.declared.statement.Size.TheVariants as size
 use Rattle.lib_tree.specs.declared.statement.Statement.{Statement}
 use Rattle.lib_tree.specs.declared.statement.Statement.TheVariants as statement
-use Rattle.lib_tree.specs.Grammar.{after, are_widths, is_nonempty, is_nonzero, is_proper, is_proper_item, may_stand, nests, sort_of}
+use Rattle.lib_tree.specs.Grammar.{after, is_nonempty, is_nonzero, is_proper, is_proper_item, may_stand, nests, sort_of}
 use Rattle.lib_judge.specs.declared.judge.Sizes.{Sizes}
 use Rattle.lib_judge.specs.declared.raw.RawPort.{RawPort}
 use Rattle.lib_judge.specs.declared.raw.RawRam.{RawRam}
 use Rattle.lib_judge.specs.Faults.{last_from}
 use Rattle.lib_judge.specs.Judge.{plain_sizes, sizes_from, with_item}
 use Rattle.lib_judge.specs.Names.{names_of_all, names_repeat}
-use Rattle.lib_judge.specs.Raw.{block, block_length, rams_of}
+use Rattle.lib_judge.specs.Raw.{block_length, rams_of}
 use Rattle.lib_judge.specs.Sketch.{and_first, item_in, items_from, next_off, sketch_of}
 use Rattle.lib_judge.specs.Variants.{has_name}
 use Rattle.lib_read.specs.Expansion.{all_rows, kind_of, kinds_of, variant_of}
@@ -38,7 +37,7 @@ use Rattle.lib_read.specs.Limits.{IsKindWithin, IsVariantWithin, IsWithinLimits}
 use Rattle.lib_read.specs.Reads.{and_name, AreSound, LibReads}
 use Rattle.rtlil_text.specs.Grammar.{All}
 use Rattle.net_fits.proofs.Lists.{all_map, all_of, all_then, how_many, many_joined}
-use Rattle.build_valid.specs.Libraries.{EachVariant, HasPortsApart, LibraryFits, port_names}
+use Rattle.build_valid.specs.Libraries.{HasPortsApart, LibraryFits, port_names}
 use Rattle.build_valid.proofs.Faultless.{swapped}
 use Rattle.build_valid.proofs.RamTables.{new_by_count}
 

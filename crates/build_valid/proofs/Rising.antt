@@ -1,5 +1,5 @@
 -- The edges that the row of a RAM cell gives to its ports are those of their groups.
-use Rattle.std.proofs.Common.{◌≡◌, ℕ, zero, suc, Bool, true, false, ◌||◌, List, [], ◌∷◌, ◌++◌, drop, length, Option, Some, None, codes, slice_get, refl, sym, ap, ◌∙◌, subst}
+use Rattle.std.proofs.Common.{◌≡◌, ℕ, Bool, true, false, ◌||◌, List, [], ◌∷◌, ◌++◌, drop, length, Option, Some, None, codes, slice_get, refl, sym, ap, ◌∙◌, subst}
 use Rattle.std.specs.Prelude.{option_and_then, if◌then◌else◌}
 use Rattle.std.proofs.lemmas.Option.{same_Some}
 use Rattle.lib_core.specs.declared.library.EdgeKind.{EdgeKind}
@@ -18,7 +18,6 @@ use Rattle.cell_consts.specs.Params.{flag_at}
 use Rattle.cell_rows.specs.declared.comb.CombRow.{CombRow}
 use Rattle.cell_rows.specs.declared.kinds.CellKind.{CellKind}
 use Rattle.cell_rows.specs.declared.kinds.CellKind.TheVariants as kind
-use Rattle.cell_rows.specs.declared.kinds.MemKind.{MemKind}
 use Rattle.cell_rows.specs.declared.reg.RegRow.{RegRow}
 use Rattle.cell_rows.specs.Rows.{comb_row, is_carried_row, reg_row}
 use Rattle.mem_rows.specs.declared.row.MemRow.{MemRow}
@@ -40,7 +39,7 @@ use Rattle.raw_cells.specs.declared.row.CellRow.{CellRow}
 use Rattle.raw_cells.specs.declared.row.CellRow.TheVariants as row
 use Rattle.raw_cells.specs.declared.row.Found.{Found}
 use Rattle.raw_cells.specs.declared.row.Found.TheVariants as found_as
-use Rattle.raw_cells.specs.Rows.{found_chosen, found_comb, found_mem, found_memory, found_ram, found_reg, found_row, found_slots, found_variant, strange_or, variant_in, variant_of}
+use Rattle.raw_cells.specs.Rows.{found_chosen, found_comb, found_mem, found_ram, found_reg, found_row, found_slots, found_variant, strange_or, variant_in, variant_of}
 use Rattle.net_gather.specs.declared.counts.Counts.{Counts}
 use Rattle.net_gather.specs.Cells.{Context, found_gain, kind_in, row_gain}
 use Rattle.net_gather.specs.Gather.{counted, gained, item_gain, raw_cells}

@@ -1,12 +1,11 @@
 -- Clocks lead to inputs, and to what cells drive that are kept as they are.
-use Rattle.std.proofs.Common.{◌≡◌, ℕ, zero, suc, Bool, List, [], ◌∷◌, ◌++◌, Some, slice_get, refl, sym, ap, ◌∙◌}
+use Rattle.std.proofs.Common.{◌≡◌, ℕ, zero, suc, List, [], ◌∷◌, ◌++◌, Some, slice_get, refl, sym, ap, ◌∙◌}
 use Rattle.std.specs.List.{flat_map}
 use Rattle.std.proofs.lemmas.Option.{same_Some}
 use Rattle.lib_core.specs.declared.library.Library.{Library}
 use Rattle.rtlil_text.specs.declared.doc.DocModule.{DocModule}
 use Rattle.rtlil_text.specs.declared.doc.Item.{Item}
 use Rattle.net_wires.specs.declared.clock.ClockRoot.{ClockRoot}
-use Rattle.net_wires.specs.declared.clock.ClockRoot.TheVariants as leads
 use Rattle.net_wires.specs.declared.number.Nets.{Nets}
 use Rattle.net_wires.specs.declared.source.Source.{Source}
 use Rattle.net_wires.specs.declared.source.Source.TheVariants as source
@@ -15,7 +14,6 @@ use Rattle.raw_cells.specs.declared.raw.CellShape.TheVariants as shape
 use Rattle.raw_cells.specs.declared.raw.RawCell.{RawCell}
 use Rattle.raw_cells.specs.declared.raw.RawPin.{RawPin}
 use Rattle.net_checks.specs.ClockPins.{cell_inverters, cell_roots, digits, places_in, root_bits, shape_roots}
-use Rattle.net_checks.specs.Driven.{cell_drives}
 use Rattle.net_build.specs.Means.{gathered_in, IsWired}
 use Rattle.net_fits.specs.Clocks.{ClocksLeadToRoots, kept_by, kept_sources, root_sources, RootsAmong}
 use Rattle.net_fits.specs.Driven.{input_sources}

@@ -1,7 +1,7 @@
 -- The RAM cells of a module with nothing wrong have no more slots than the pins of a module may have bits.
-use Rattle.std.proofs.Common.{◌≡◌, ℕ, zero, suc, ◌+◌, ◌≤◌, ◌<◌, Bool, true, false, cond, ◌&&◌, ◌||◌, List, [], ◌∷◌, ◌++◌, map, drop, length, replicate, Option, Some, None, codes, refl, sym, ap, ◌∙◌, arith}
+use Rattle.std.proofs.Common.{◌≡◌, ℕ, zero, suc, ◌+◌, ◌≤◌, ◌<◌, Bool, true, false, ◌||◌, List, [], ◌∷◌, ◌++◌, map, drop, length, Option, Some, None, refl, sym, ap, ◌∙◌, arith}
 use Rattle.std.specs.Prelude.{if◌then◌else◌, nat_le, nat_lt}
-use Rattle.std.specs.List.{flat_map, list_any, sum_by}
+use Rattle.std.specs.List.{sum_by}
 use Rattle.std.proofs.lemmas.Bool.Decides.{nat_tests}
 use Rattle.std.proofs.lemmas.List.{length-replicate}
 use Rattle.std.proofs.lemmas.List.Sums.{sum_by-cons}
@@ -18,7 +18,6 @@ use Rattle.rtlil_text.specs.Grammar.{All}
 use Rattle.net_core.specs.declared.bits.Bit.{Bit}
 use Rattle.net_core.specs.declared.mems.Attr.{Attr}
 use Rattle.net_core.specs.declared.rams.RamCell.{RamCell}
-use Rattle.net_core.specs.declared.rams.SlotUse.{SlotUse}
 use Rattle.cell_rows.specs.declared.comb.CombRow.{CombRow}
 use Rattle.cell_rows.specs.declared.pin.PinRow.{PinRow}
 use Rattle.cell_rows.specs.Rows.{is_carried_row}
@@ -49,9 +48,9 @@ use Rattle.net_gather.specs.declared.open_pin.OpenPin.{OpenPin}
 use Rattle.net_gather.specs.declared.open_pin.PinBits.{PinBits}
 use Rattle.net_gather.specs.declared.open_pin.PinBits.TheVariants.{Given, LeftOut}
 use Rattle.net_gather.specs.Cells.{Context, found_faults, found_gain, kind_in, pin_faults, row_faults, row_gain, row_pins, shape_of}
-use Rattle.net_gather.specs.Counts.{count_breaches, has_long_address, pin_size, pins_size}
+use Rattle.net_gather.specs.Counts.{count_breaches, has_long_address, pin_size, pins_size, row_limits}
 use Rattle.net_gather.specs.Faults.{at, limit_breach, limit_breaches}
-use Rattle.net_gather.specs.Gather.{cell_faults, counted, gained, item_gain, raw_cells}
+use Rattle.net_gather.specs.Gather.{cell_faults, counted, gained, raw_cells}
 use Rattle.net_gather.specs.Laws.{CellsFit, FitsShape, FitsTable, row_of_pin}
 use Rattle.net_gather.specs.OpenPins.{bits_of, bits_open, bits_size, open_count, raw_pins}
 use Rattle.doc_params.specs.Docs.{attrs_of, params_of}
@@ -236,8 +235,8 @@ found_step x st c params found_as.Unknown e h = absurd cc
 found_step x st c params found_as.Missing e h = absurd cc
 found_step x st c params (found_as.Row r) e h =
     let counts : count_breaches x.memory st r (row_pins x c r) ≡ [] = none_right _ _ e in
-    let behind = none_right (limit_breaches 4194304 (st.places + open_count (row_pins x c r))) _ counts in
-    let few = limit_kept most (st.pin_bits + pins_size (has_long_address r) (row_pins x c r)) (none_left _ _ behind) in
+    let behind : limit_breaches most (st.pin_bits + pins_size (has_long_address r) (row_pins x c r)) ++ row_limits x.memory st.reads st.writes r ≡ [] = none_right (limit_breaches 4194304 (st.places + open_count (row_pins x c r))) _ counts in
+    let few : st.pin_bits + pins_size (has_long_address r) (row_pins x c r) ≤ most = limit_kept most (st.pin_bits + pins_size (has_long_address r) (row_pins x c r)) (none_left _ _ behind) in
     let weight = row_weight c params r st.places (row_pins x c r) in
     (omega (arith, weight), few)
 

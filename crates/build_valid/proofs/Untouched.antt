@@ -1,6 +1,6 @@
 -- Places that no connect touches and no cell inverts: their nets stand at no other place, and no clock leads to them.
-use Rattle.std.proofs.Common.{◌≡◌, inl, inr, ℕ, zero, suc, ◌<◌, Bool, true, false, ◌||◌, List, [], ◌∷◌, length, get_or, Some, refl, sym, ap, ◌∙◌, subst, arith}
-use Rattle.std.specs.Prelude.{slice_get, slice_set}
+use Rattle.std.proofs.Common.{◌≡◌, inl, inr, ℕ, zero, suc, ◌<◌, Bool, true, false, List, [], ◌∷◌, length, get_or, Some, refl, sym, ap, ◌∙◌, subst, arith}
+use Rattle.std.specs.Prelude.{slice_get}
 use Rattle.std.proofs.lemmas.Option.{get_or_from_slice_get, same_Some, slice_get-get_or, slice_get_within}
 use Rattle.rtlil_text.specs.Grammar.{All}
 use Rattle.net_core.specs.declared.bits.Bit.{Bit}
@@ -25,7 +25,7 @@ use Rattle.net_wires.proofs.Ready.{length_links, links_own, links_within, set_is
 use Rattle.net_wires.proofs.Saying.{found_at, number_of, one_end, Says}
 use Rattle.net_wires.proofs.Walks.{walk_end}
 use Rattle.raw_cells.specs.Clocks.{place_bit}
-use Rattle.build_valid.proofs.Agreeing.{end_of_place, EndOf}
+use Rattle.build_valid.proofs.Agreeing.{end_of_place}
 
 -- these places are so
 module _ (so : ℕ → Bool) where

@@ -1,7 +1,7 @@
 -- A design that is built is valid, and its modules have combinational orders.
-use Rattle.std.proofs.Common.{◌≡◌, ℕ, zero, suc, ◌+◌, ◌≤◌, ◌<◌, ◌^◌, List, [], ◌∷◌, map, length, Some, slice_get, refl, sym, ap, ◌∙◌, subst, arith}
+use Rattle.std.proofs.Common.{◌≡◌, ℕ, suc, ◌≤◌, ◌^◌, List, [], ◌∷◌, map, length, slice_get, refl, sym, ap, ◌∙◌, subst, arith}
 use Rattle.std.specs.Prelude.{Ok}
-use Rattle.std.specs.List.{flat_map, sum_by}
+use Rattle.std.specs.List.{sum_by}
 use Rattle.lib_core.specs.declared.library.Library.{Library}
 use Rattle.lib_core.specs.declared.library.Tri.{Tri}
 use Rattle.rtlil_text.specs.declared.doc.Doc.{Doc}
@@ -30,7 +30,7 @@ use Rattle.net_checks.specs.Laws.{GatheredIsSound, ShownInouts}
 use Rattle.net_module.specs.Assembly.{module_of, rams_of}
 use Rattle.net_build.specs.Builds.{AreBuilt, Builds, IsBuilt}
 use Rattle.net_build.specs.Faults.{IsFaultless}
-use Rattle.net_build.specs.Means.{context_in, gathered_in, IsMeant, IsWired}
+use Rattle.net_build.specs.Means.{context_in, gathered_in, IsWired}
 use Rattle.net_fits.specs.Clocks.{ClocksLeadToRoots}
 use Rattle.net_fits.specs.Drivers.{SolvedCells}
 use Rattle.net_fits.specs.RamParts.{RamHasParts, RamShowsOnce}

@@ -1,5 +1,5 @@
 -- A module with nothing wrong whose places have bits is solved.
-use Rattle.std.proofs.Common.{◌≡◌, ℕ, ◌+◌, ◌&&◌, Bool, false, not, List, [], ◌∷◌, ◌++◌, refl, ap, subst}
+use Rattle.std.proofs.Common.{◌≡◌, ℕ, ◌+◌, ◌&&◌, false, not, List, [], ◌∷◌, ◌++◌, refl, ap, subst}
 use Rattle.std.specs.Prelude.{if◌then◌else◌}
 use Rattle.lib_core.specs.declared.library.Library.{Library}
 use Rattle.rtlil_text.specs.declared.doc.DocModule.{DocModule}
