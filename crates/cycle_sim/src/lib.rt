@@ -14,11 +14,13 @@ use std::thread::Threads;
 pub fn trace_all<R: Threads + Sync>(
     _rt: &R,
     _alloc: Global,
+    _workers: u32,
     _module: &Module,
     _library: &Library,
     _events: &List<Event>,
     _seeds: u64,
 ) -> Result<List<List<List<bool>>>, Memory>
+    requires workers { 1 ≤ _workers }
     requires runs { CanRun _library.now _module.now }
     requires few { length _events.now ≤ 65536 }
     requires inputs { HaveInputs _module.now _events.now }

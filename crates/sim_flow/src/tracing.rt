@@ -17,6 +17,9 @@ use trace_text::{print_trace, trace_length};
 /// The bytes that a trace may have.
 const MOST_BYTES: u64 = 67_108_864;
 
+/// How many threads share the seeds, where they can be had.
+const WORKERS: u32 = 4;
+
 /// Why there is no text of traces.
 #[derive(Clone, Copy, Debug, PartialEq, Eq)]
 pub enum TraceRefusal {
@@ -55,7 +58,7 @@ pub fn trace_of<R: Threads + Sync>(
     if seen > MOST_BYTES {
         return Err(TraceRefusal::Long { seen });
     }
-    let traces = trace_all(rt, alloc, module, library, events, seeds)?;
+    let traces = trace_all(rt, alloc, WORKERS, module, library, events, seeds)?;
     let text = print_trace(alloc, module, &traces)?;
     Ok(text)
 }
