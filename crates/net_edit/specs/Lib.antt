@@ -1,0 +1,6 @@
+pub mod Names
+pub mod Edits
+pub mod Redirect
+pub mod Users
+pub mod Ranks
+pub mod Laws

@@ -1,0 +1,139 @@
+//! A module under edit.
+ghost use Rattle.std.specs.Prelude.{◌≡◌, ◌+◌, ◌<◌, ◌≤◌, ◌++◌, ◌∷◌, [], length, slice_set, IfOk, OnOk, OnErr};
+ghost use Rattle.std.specs.List.{remove};
+ghost use Rattle.net_edit.specs.Edits as spec;
+
+use crate::fault::EditFault;
+use crate::naming::{Numbered, front_of, next_name};
+use lib_core::{List, Memory, Name};
+use net_core::{Bit, Comb, Mem, Module, Reg};
+use std::alloc::Global;
+use std::marker::Model;
+use std::mem;
+
+/// The nets that a module has at most.
+const MOST_NETS: u64 = 67_108_864;
+
+/// A module under edit. Contracts see the netlist so far, and for each net the bit that its readers
+/// read in the module that `finish` gives.
+#[derive(Drop)]
+pub struct Edit {
+    alloc: Global,
+    module: Module,
+    reads: Vec<Bit>,
+    /// What the names of new cells begin with.
+    front: Name,
+    /// The number of the next new cell.
+    count: u64,
+}
+
+impl Model for Edit {
+    ghost use Rattle.net_core.specs.Valid.{cell_names};
+    ghost use Rattle.net_edit.specs.Edits.{Editing};
+    ghost use Rattle.net_edit.specs.Names.{IsFront, AreFree};
+
+    ghost Value = { Editing };
+
+    ghost view = { λ e. record { netlist = e.«module»; reads = e.reads.items } };
+
+    ghost invariant = { λ e. IsFront e.front × AreFree e.front e.count (cell_names e.«module») };
+}
+
+/// So many nets, numbered on from one.
+#[tactic(auto, using(crate::proofs::Ranges::range_more))]
+fn nets_from(alloc: Global, first: u32, count: u32) -> Result<List<u32>, Memory>
+    requires { first + count < 2 ^ 32 }
+    ensures { IfOk result (λ nets. nets ≡ spec.nets_from first count) }
+{
+    let mut nets = Vec::with_capacity(alloc, count as usize)?;
+    for place in 0..count {
+        nets.push(first + place)?;
+    }
+    Ok(List::from_vec(nets))
+}
+
+/// These nets as bits.
+fn bits_of(alloc: Global, nets: &[u32]) -> Result<Vec<Bit>, Memory>
+    ensures { IfOk result (λ bits. bits.items ≡ spec.as_bits nets.now) }
+{
+    Ok(nets.iter().map(|net| Bit::Net(*net)).collect(alloc)?)
+}
+
+/// Puts the items of a list in the place of one item. Without memory nothing changes.
+fn splice<T: Drop>(items: &mut Vec<T>, index: usize, mut more: Vec<T>) -> Result<(), Memory>
+    requires { index < length items.old.items }
+    ensures ok { OnOk result (items.new.items ≡ spec.spliced items.old.items index more.items) }
+    ensures err { OnErr result (items.new.items ≡ items.old.items) }
+{
+    let count = more.len();
+    items.append(&mut more)?;
+    items.remove(index);
+    items[index..].rotate_right(count);
+    Ok(())
+}
+
+impl Edit {
+    /// The module as it is, each net read as itself.
+    pub fn new(alloc: Global, module: Module) -> Result<Edit, Memory>
+        ensures netlist { IfOk result (λ edit. edit.netlist ≡ «module») }
+        ensures reads { IfOk result (λ edit. edit.reads ≡ spec.bits_from 0 «module».nets) }
+    {
+        let nets = nets_from(alloc, 0, module.nets)?;
+        let reads = bits_of(alloc, nets.as_slice())?;
+        let front = front_of(alloc, &module)?;
+        Ok(Edit {
+            alloc,
+            module,
+            reads,
+            front,
+            count: 0,
+        })
+    }
+
+    /// So many new nets, numbered on from those of the module. The answer is `Full`, with the number of
+    /// nets that there would be, exactly where they are more than 67,108,864. Where nets are refused
+    /// the edit stays as it was.
+    pub fn fresh(&mut self, count: u32) -> Result<List<u32>, EditFault>
+        ensures nets { IfOk result (λ nets. nets ≡ spec.nets_from self.old.netlist.nets count) }
+        ensures ok { OnOk result (self.new ≡ spec.with_fresh self.old count) }
+        ensures err { OnErr result (self.new ≡ self.old) }
+        ensures fits { spec.FitsNets (self.old.netlist.nets + count) result }
+    {
+        let first = self.module.nets;
+        let seen = u64::from(first) + u64::from(count);
+        if seen > MOST_NETS {
+            return Err(EditFault::Full { seen });
+        }
+        let nets = nets_from(self.alloc, first, count)?;
+        let mut bits = bits_of(self.alloc, nets.as_slice())?;
+        self.reads.append(&mut bits)?;
+        self.module.nets = first + count;
+        Ok(nets)
+    }
+
+    /// Puts a logic cell behind the others, under a fresh name in the place of its own. Where it is
+    /// refused the edit stays as it was.
+    #[tactic(auto, using(crate::proofs::FreshNames::fresh_is, crate::proofs::FreshNames::comb_free))]
+    pub fn add_comb(&mut self, cell: Comb) -> Result<(), Memory>
+        ensures ok { OnOk result (spec.AddsComb self.old self.new cell) }
+        ensures err { OnErr result (self.new ≡ self.old) }
+    {
+        let Numbered { name, next } = next_name(self.alloc, &self.front, self.count)?;
+        self.module.combs.push(Comb { name, ..cell })?;
+        self.count = next;
+        Ok(())
+    }
+
+    /// Puts a register behind the others, under a fresh name in the place of its own. Where it is
+    /// refused the edit stays as it was.
+    #[tactic(auto, using(crate::proofs::FreshNames::fresh_is, crate::proofs::FreshNames::reg_free))]
+    pub fn add_reg(&mut self, cell: Reg) -> Result<(), Memory>
+        ensures ok { OnOk result (spec.AddsReg self.old self.new cell) }
+        ensures err { OnErr result (self.new ≡ self.old) }
+    {
+        let Numbered { name, next } = next_name(self.alloc, &self.front, self.count)?;
+        self.module.regs.push(Reg { name, ..cell })?;
+        self.count = next;
+        Ok(())
+    }
+}

@@ -1,0 +1,53 @@
+//! Laws about edits, each the contract of a function that does nothing.
+ghost use Rattle.net_edit.specs.Laws.{CutHasRanks, AddedCombIsOrdered, AddedRegIsOrdered, AddedNetsSimulate, AddedCombSimulates, AddedRegSimulates, AddedCombHasOneDriver, AddedRegHasOneDriver, AddedCombIsWithin, AddedRegIsWithin};
+
+/// A node that does not reach what it needs has ranks along which it rises.
+pub fn cut_has_ranks()
+    ensures { CutHasRanks }
+{}
+
+/// A logic cell along which the ranks of an order rise keeps this order.
+pub fn added_comb_is_ordered()
+    ensures { AddedCombIsOrdered }
+{}
+
+/// A register along which the ranks of an order rise keeps this order.
+pub fn added_reg_is_ordered()
+    ensures { AddedRegIsOrdered }
+{}
+
+/// Each run of a module with more nets is one of the module, with the same wave.
+pub fn added_nets_simulate()
+    ensures { AddedNetsSimulate }
+{}
+
+/// Each run of a module with a logic cell more is one of the module, with the same wave.
+pub fn added_comb_simulates()
+    ensures { AddedCombSimulates }
+{}
+
+/// Each run of a module with a register more, whose clock it knows, is one of the module, with the
+/// same wave.
+pub fn added_reg_simulates()
+    ensures { AddedRegSimulates }
+{}
+
+/// With a logic cell over undriven nets each net still has at most one driver.
+pub fn added_comb_has_one_driver()
+    ensures { AddedCombHasOneDriver }
+{}
+
+/// With a register over undriven nets each net still has at most one driver.
+pub fn added_reg_has_one_driver()
+    ensures { AddedRegHasOneDriver }
+{}
+
+/// A logic cell over nets of the module keeps all nets of nodes within it.
+pub fn added_comb_is_within()
+    ensures { AddedCombIsWithin }
+{}
+
+/// A register over nets of the module keeps all nets of nodes within it.
+pub fn added_reg_is_within()
+    ensures { AddedRegIsWithin }
+{}
