@@ -2,6 +2,9 @@ pub mod Lists
 pub mod Ranges
 pub mod Marked
 pub mod FreshNames
+pub mod Named
 pub mod Heights
 pub mod Places
 pub mod Adding
+pub mod Mapping
+pub mod Using

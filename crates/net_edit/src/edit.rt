@@ -59,19 +59,6 @@ fn bits_of(alloc: Global, nets: &[u32]) -> Result<Vec<Bit>, Memory>
     Ok(nets.iter().map(|net| Bit::Net(*net)).collect(alloc)?)
 }
 
-/// Puts the items of a list in the place of one item. Without memory nothing changes.
-fn splice<T: Drop>(items: &mut Vec<T>, index: usize, mut more: Vec<T>) -> Result<(), Memory>
-    requires { index < length items.old.items }
-    ensures ok { OnOk result (items.new.items ≡ spec.spliced items.old.items index more.items) }
-    ensures err { OnErr result (items.new.items ≡ items.old.items) }
-{
-    let count = more.len();
-    items.append(&mut more)?;
-    items.remove(index);
-    items[index..].rotate_right(count);
-    Ok(())
-}
-
 impl Edit {
     /// The module as it is, each net read as itself.
     pub fn new(alloc: Global, module: Module) -> Result<Edit, Memory>
