@@ -2,9 +2,11 @@
 ghost use Rattle.std.specs.Prelude.{◌≡◌, ◌+◌, ◌<◌, ◌≤◌, ◌++◌, ◌∷◌, [], length, slice_set, IfOk, OnOk, OnErr};
 ghost use Rattle.std.specs.List.{remove};
 ghost use Rattle.net_edit.specs.Edits as spec;
+ghost use Rattle.net_edit.specs.Redirect.{finished};
 
 use crate::fault::EditFault;
 use crate::naming::{Numbered, front_of, next_name};
+use crate::redirect::redirect;
 use lib_core::{List, Memory, Name};
 use net_core::{Bit, Comb, Mem, Module, Reg};
 use std::alloc::Global;
@@ -75,6 +77,16 @@ impl Edit {
             front,
             count: 0,
         })
+    }
+
+    /// The module that was made: every reader of a net reads the bit that the edit has for it. It takes
+    /// no memory.
+    pub fn finish(self) -> Module
+        ensures { result ≡ finished self }
+    {
+        let Edit { mut module, reads, .. } = self;
+        redirect(reads.as_slice(), &mut module);
+        module
     }
 
     /// So many new nets, numbered on from those of the module. The answer is `Full`, with the number of
