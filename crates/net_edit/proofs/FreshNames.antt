@@ -134,3 +134,9 @@ comb_free m c front count is small free = more_free front count (cell_names m) (
 
 pub reg_free : (m : Module) (r : Reg) (front : List ℕ) (count : ℕ) → r.name ≡ numbered front count → count < 2 ^ 64 → AreFree front count (cell_names m) → AreFree front (count + 1) (cell_names (with_reg m r))
 reg_free m r front count is small free = more_free front count (cell_names m) (cell_names (with_reg m r)) r.name is small (reg_named m r) free
+
+pub comb_fewer : (m : Module) (i : ℕ) (front : List ℕ) (count : ℕ) → AreFree front count (cell_names m) → AreFree front count (cell_names (without_comb m i))
+comb_fewer m i front count free = fewer_free front count (cell_names m) (cell_names (without_comb m i)) (comb_gone m i) free
+
+pub reg_fewer : (m : Module) (i : ℕ) (front : List ℕ) (count : ℕ) → AreFree front count (cell_names m) → AreFree front count (cell_names (without_reg m i))
+reg_fewer m i front count free = fewer_free front count (cell_names m) (cell_names (without_reg m i)) (reg_gone m i) free

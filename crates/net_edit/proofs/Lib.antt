@@ -8,3 +8,6 @@ pub mod Places
 pub mod Adding
 pub mod Mapping
 pub mod Using
+pub mod Splicing
+pub mod Redirecting
+pub mod RedirectedOrder

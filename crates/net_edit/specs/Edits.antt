@@ -1,6 +1,6 @@
 -- What an edit makes of a module: cells and nets behind the others, memories in the place of one, fewer cells, and readers of a
 -- net that read another bit.
-use Rattle.std.specs.Prelude.{◌≡◌, ℕ, ◌+◌, ◌<◌, ◌≤◌, List, [], ◌∷◌, ◌++◌, map, length, take, drop, Option, Some, slice_get, Result, Ok, Err}
+use Rattle.std.specs.Prelude.{◌≡◌, ℕ, ◌+◌, ◌-◌, ◌<◌, ◌≤◌, List, [], ◌∷◌, ◌++◌, map, length, take, drop, Option, Some, slice_get, Result, Ok, Err}
 use Rattle.std.specs.List.{range_with_len, remove}
 use Rattle.net_core.specs.declared.bits.Bit.{Bit}
 use Rattle.net_core.specs.declared.bits.Bit.TheVariants.{Zero, One, Net}
@@ -48,9 +48,17 @@ without_reg m i = record m { regs = remove m.regs i }
 abbrev pub spliced : {X : Type 0} → List X → ℕ → List X → List X
 spliced xs i more = take i xs ++ (more ++ drop (i + 1) xs)
 
+-- the items from a place on, of which the last ones come first
+abbrev pub tail_rotated : {X : Type 0} → List X → ℕ → ℕ → List X
+tail_rotated xs i count = take i xs ++ (drop (length xs - i - count) (drop i xs) ++ take (length xs - i - count) (drop i xs))
+
 -- the module with memories in the place of one
 abbrev pub with_mems : Module → ℕ → List Mem → Module
 with_mems m i mems = record m { mems = spliced m.mems i mems }
+
+-- the edit with another netlist
+abbrev pub on_netlist : Editing → Module → Editing
+on_netlist e m = record e { netlist = m }
 
 -- an identifier that no cell of the module has
 pub record IsFresh (m : Module) (name : List ℕ) : Type 0 where

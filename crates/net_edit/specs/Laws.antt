@@ -1,6 +1,8 @@
 -- What edits keep.
-use Rattle.std.specs.Prelude.{◌≡◌, ℕ, ◌<◌, ◌≤◌, Bool, true, false, List, [], ◌∷◌, ◌++◌, Some, slice_get}
+use Rattle.std.specs.Prelude.{◌≡◌, ◌≢◌, ℕ, ◌<◌, Bool, true, false, List, [], length, Some, slice_get, slice_set}
 use Rattle.lib_core.specs.declared.library.Library.{Library}
+use Rattle.net_core.specs.declared.bits.Bit.{Bit}
+use Rattle.net_core.specs.declared.bits.Bit.TheVariants.{Net}
 use Rattle.net_core.specs.declared.bits.Clock.{Clock}
 use Rattle.net_core.specs.declared.bits.Clock.TheVariants.{Root, Never}
 use Rattle.net_core.specs.declared.cells.Comb.{Comb}
@@ -11,7 +13,7 @@ use Rattle.net_core.specs.Nodes.{Node, comb_node, reg_node, nodes_of, HasNet, Dr
 use Rattle.net_core.specs.Ports.{Interface, inputs_of, clocks_of}
 use Rattle.net_core.specs.Simulation.{Simulates}
 use Rattle.net_core.specs.Valid.{AreApart}
-use Rattle.net_edit.specs.Edits.{with_nets, with_comb, with_reg}
+use Rattle.net_edit.specs.Edits.{Editing, with_nets, with_comb, with_reg}
 
 -- nothing drives the net
 pub record IsUndriven (m : Module) (net : ℕ) : Type 0 where
@@ -77,3 +79,17 @@ AddedCombIsWithin = (m : Module) (c : Comb) → NetsWithin m → IsNodeWithin m 
 
 abbrev pub AddedRegIsWithin : Type 0
 AddedRegIsWithin = (m : Module) (r : Reg) → NetsWithin m → IsNodeWithin m (reg_node r) → NetsWithin (with_reg m r)
+
+-- the edit in which the readers of a net read a bit
+abbrev pub with_alias : Editing → ℕ → Bit → Editing
+with_alias e net bit = record e { reads = slice_set e.reads net bit }
+
+-- A net may be aliased to a bit: nothing drives it, its readers read itself so far, and those of the bit's net do too, which is
+-- another one; and no net is aliased to it. So one pass over the module is enough.
+pub record CanAlias (e : Editing) (net : ℕ) (bit : Bit) : Type 0 where
+  pub there : net < length e.reads
+  pub undriven : IsUndriven e.netlist net
+  pub own : slice_get e.reads net ≡ Some (Net net)
+  pub other : (k : ℕ) → bit ≡ Net k → k ≢ net
+  pub direct : (k : ℕ) → bit ≡ Net k → slice_get e.reads k ≡ Some (Net k)
+  pub unled : (n : ℕ) → slice_get e.reads n ≡ Some (Net net) → n ≡ net

@@ -4,3 +4,4 @@ pub mod Redirect
 pub mod Users
 pub mod Ranks
 pub mod Laws
+pub mod Aliases

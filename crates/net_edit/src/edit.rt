@@ -3,6 +3,7 @@ ghost use Rattle.std.specs.Prelude.{◌≡◌, ◌+◌, ◌<◌, ◌≤◌, ◌+
 ghost use Rattle.std.specs.List.{remove};
 ghost use Rattle.net_edit.specs.Edits as spec;
 ghost use Rattle.net_edit.specs.Redirect.{finished};
+ghost use Rattle.net_edit.specs.Laws.{CanAlias, with_alias};
 
 use crate::fault::EditFault;
 use crate::naming::{Numbered, front_of, next_name};
@@ -59,6 +60,30 @@ fn bits_of(alloc: Global, nets: &[u32]) -> Result<Vec<Bit>, Memory>
     ensures { IfOk result (λ bits. bits.items ≡ spec.as_bits nets.now) }
 {
     Ok(nets.iter().map(|net| Bit::Net(*net)).collect(alloc)?)
+}
+
+/// Rotates the items from a place on to the right.
+fn rotate_tail<T>(items: &mut [T], index: usize, count: usize)
+    requires start { index ≤ length items.old }
+    requires room { index + count ≤ length items.old }
+    ensures { items.new ≡ spec.tail_rotated items.old index count }
+{
+    items[index..].rotate_right(count);
+}
+
+/// Puts the items of a list in the place of one item. Without memory nothing changes.
+#[tactic(auto, using(crate::proofs::Splicing::spliced_is))]
+fn splice<T: Drop>(items: &mut Vec<T>, index: usize, more: Vec<T>) -> Result<(), Memory>
+    requires { index < length items.old.items }
+    ensures ok { OnOk result (items.new.items ≡ spec.spliced items.old.items index more.items) }
+    ensures err { OnErr result (items.new.items ≡ items.old.items) }
+{
+    let mut more = more;
+    let count = more.len();
+    items.append(&mut more)?;
+    items.remove(index);
+    rotate_tail(items.as_mut_slice(), index, count);
+    Ok(())
 }
 
 impl Edit {
@@ -134,5 +159,50 @@ impl Edit {
         self.module.regs.push(Reg { name, ..cell })?;
         self.count = next;
         Ok(())
+    }
+
+    /// Takes a logic cell out; the others keep their order. It takes no memory.
+    #[tactic(auto, using(crate::proofs::FreshNames::comb_fewer))]
+    pub fn drop_comb(&mut self, index: u32)
+        requires { index < length self.old.netlist.combs }
+        ensures { self.new ≡ spec.on_netlist self.old (spec.without_comb self.old.netlist index) }
+    {
+        let empty = List::from_vec(Vec::new(self.alloc));
+        let mut combs = mem::replace(&mut self.module.combs, empty).into_vec();
+        combs.remove(index as usize);
+        self.module.combs = List::from_vec(combs);
+    }
+
+    /// Takes a register out; the others keep their order. It takes no memory.
+    #[tactic(auto, using(crate::proofs::FreshNames::reg_fewer))]
+    pub fn drop_reg(&mut self, index: u32)
+        requires { index < length self.old.netlist.regs }
+        ensures { self.new ≡ spec.on_netlist self.old (spec.without_reg self.old.netlist index) }
+    {
+        let empty = List::from_vec(Vec::new(self.alloc));
+        let mut regs = mem::replace(&mut self.module.regs, empty).into_vec();
+        regs.remove(index as usize);
+        self.module.regs = List::from_vec(regs);
+    }
+
+    /// Puts memories in the place of one. Where they are refused the edit stays as it was.
+    pub fn replace_mem(&mut self, index: u32, mems: List<Mem>) -> Result<(), Memory>
+        requires { index < length self.old.netlist.mems }
+        ensures ok { OnOk result (self.new ≡ spec.on_netlist self.old (spec.with_mems self.old.netlist index mems)) }
+        ensures err { OnErr result (self.new ≡ self.old) }
+    {
+        let empty = List::from_vec(Vec::new(self.alloc));
+        let mut items = mem::replace(&mut self.module.mems, empty).into_vec();
+        let spliced = splice(&mut items, index as usize, mems.into_vec());
+        self.module.mems = List::from_vec(items);
+        spliced
+    }
+
+    /// Every reader of a net reads a bit, once the edit is finished. It takes no memory.
+    pub fn alias(&mut self, net: u32, bit: Bit)
+        requires { CanAlias self.old net bit }
+        ensures { self.new ≡ with_alias self.old net bit }
+    {
+        self.reads[net as usize] = bit;
     }
 }

@@ -1,4 +1,5 @@
 //! Laws about edits, each the contract of a function that does nothing.
+ghost use Rattle.net_edit.specs.Aliases.{RedirectedSimulates, RedirectedIsOrdered, RedirectedHasOneDriver, RedirectedIsWithin, AliasIsRedirection};
 ghost use Rattle.net_edit.specs.Laws.{CutHasRanks, AddedCombIsOrdered, AddedRegIsOrdered, AddedNetsSimulate, AddedCombSimulates, AddedRegSimulates, AddedCombHasOneDriver, AddedRegHasOneDriver, AddedCombIsWithin, AddedRegIsWithin};
 
 /// A node that does not reach what it needs has ranks along which it rises.
@@ -50,4 +51,31 @@ pub fn added_comb_is_within()
 /// A register over nets of the module keeps all nets of nodes within it.
 pub fn added_reg_is_within()
     ensures { AddedRegIsWithin }
+{}
+
+/// Each run of a module whose readers read other bits is one of the module, but at the nets in
+/// whose place they are read.
+pub fn redirected_simulates()
+    ensures { RedirectedSimulates }
+{}
+
+/// An order in which no bit is higher than the net in whose place it is read is one of the module
+/// whose readers read these bits.
+pub fn redirected_is_ordered()
+    ensures { RedirectedIsOrdered }
+{}
+
+/// Where readers read other bits each net still has at most one driver.
+pub fn redirected_has_one_driver()
+    ensures { RedirectedHasOneDriver }
+{}
+
+/// Where readers read other bits of the module all nets of nodes are still within it.
+pub fn redirected_is_within()
+    ensures { RedirectedIsWithin }
+{}
+
+/// One more alias keeps every driven net and every inout bit read as itself.
+pub fn alias_is_redirection()
+    ensures { AliasIsRedirection }
 {}

@@ -24,7 +24,6 @@ fn uses_in(net: u32, bits: &[Bit]) -> usize
 }
 
 /// A count, and the places where the net stands among bits.
-#[tactic(auto, using(crate::proofs::Using::one_list))]
 fn more(count: u64, net: u32, bits: &[Bit]) -> u64
     ensures { result ≡ spec.capped (count + spec.uses_in net bits.now) }
 {
@@ -42,7 +41,7 @@ fn one_more(count: u64, net: u32, bit: Bit) -> u64
     }
 }
 
-#[tactic(auto, using(crate::proofs::Using::then))]
+#[tactic(auto, using(crate::proofs::Using::uses_joined))]
 fn more_comb(count: u64, net: u32, comb: &Comb) -> u64
     ensures { result ≡ spec.capped (count + spec.uses_in net (comb_bits comb.now)) }
 {
@@ -51,7 +50,7 @@ fn more_comb(count: u64, net: u32, comb: &Comb) -> u64
     more(count, net, comb.s.as_slice())
 }
 
-#[tactic(auto, using(crate::proofs::Using::then))]
+#[tactic(auto, using(crate::proofs::Using::uses_joined))]
 fn more_combs(count: u64, net: u32, combs: &[Comb]) -> u64
     ensures { result ≡ spec.capped (count + spec.uses_in net (flat_map comb_bits combs.now)) }
 {
@@ -64,7 +63,7 @@ fn more_combs(count: u64, net: u32, combs: &[Comb]) -> u64
     count
 }
 
-#[tactic(auto, using(crate::proofs::Using::then))]
+#[tactic(auto, using(crate::proofs::Using::uses_joined))]
 fn more_reg(count: u64, net: u32, reg: &Reg) -> u64
     ensures { result ≡ spec.capped (count + spec.uses_in net (reg_bits reg.now)) }
 {
@@ -74,7 +73,7 @@ fn more_reg(count: u64, net: u32, reg: &Reg) -> u64
     more(count, net, reg.d.as_slice())
 }
 
-#[tactic(auto, using(crate::proofs::Using::then))]
+#[tactic(auto, using(crate::proofs::Using::uses_joined))]
 fn more_regs(count: u64, net: u32, regs: &[Reg]) -> u64
     ensures { result ≡ spec.capped (count + spec.uses_in net (flat_map reg_bits regs.now)) }
 {
@@ -87,7 +86,7 @@ fn more_regs(count: u64, net: u32, regs: &[Reg]) -> u64
     count
 }
 
-#[tactic(auto, using(crate::proofs::Using::then))]
+#[tactic(auto, using(crate::proofs::Using::uses_joined))]
 fn more_read(count: u64, net: u32, read: &RdPort) -> u64
     ensures { result ≡ spec.capped (count + spec.uses_in net (read_bits read.now)) }
 {
@@ -97,7 +96,7 @@ fn more_read(count: u64, net: u32, read: &RdPort) -> u64
     more(count, net, read.addr.as_slice())
 }
 
-#[tactic(auto, using(crate::proofs::Using::then))]
+#[tactic(auto, using(crate::proofs::Using::uses_joined))]
 fn more_reads(count: u64, net: u32, reads: &[RdPort]) -> u64
     ensures { result ≡ spec.capped (count + spec.uses_in net (flat_map read_bits reads.now)) }
 {
@@ -110,7 +109,7 @@ fn more_reads(count: u64, net: u32, reads: &[RdPort]) -> u64
     count
 }
 
-#[tactic(auto, using(crate::proofs::Using::then))]
+#[tactic(auto, using(crate::proofs::Using::uses_joined))]
 fn more_write(count: u64, net: u32, write: &WrPort) -> u64
     ensures { result ≡ spec.capped (count + spec.uses_in net (write_bits write.now)) }
 {
@@ -119,7 +118,7 @@ fn more_write(count: u64, net: u32, write: &WrPort) -> u64
     more(count, net, write.value.as_slice())
 }
 
-#[tactic(auto, using(crate::proofs::Using::then))]
+#[tactic(auto, using(crate::proofs::Using::uses_joined))]
 fn more_writes(count: u64, net: u32, writes: &[WrPort]) -> u64
     ensures { result ≡ spec.capped (count + spec.uses_in net (flat_map write_bits writes.now)) }
 {
@@ -132,7 +131,7 @@ fn more_writes(count: u64, net: u32, writes: &[WrPort]) -> u64
     count
 }
 
-#[tactic(auto, using(crate::proofs::Using::then))]
+#[tactic(auto, using(crate::proofs::Using::uses_joined))]
 fn more_mem(count: u64, net: u32, mem: &Mem) -> u64
     ensures { result ≡ spec.capped (count + spec.uses_in net (mem_bits mem.now)) }
 {
@@ -140,7 +139,7 @@ fn more_mem(count: u64, net: u32, mem: &Mem) -> u64
     more_writes(count, net, mem.writes.as_slice())
 }
 
-#[tactic(auto, using(crate::proofs::Using::then))]
+#[tactic(auto, using(crate::proofs::Using::uses_joined))]
 fn more_mems(count: u64, net: u32, mems: &[Mem]) -> u64
     ensures { result ≡ spec.capped (count + spec.uses_in net (flat_map mem_bits mems.now)) }
 {
@@ -153,7 +152,7 @@ fn more_mems(count: u64, net: u32, mems: &[Mem]) -> u64
     count
 }
 
-#[tactic(auto, using(crate::proofs::Using::then))]
+#[tactic(auto, using(crate::proofs::Using::uses_joined))]
 fn more_slot(count: u64, net: u32, slot: &SlotUse) -> u64
     ensures { result ≡ spec.capped (count + spec.uses_in net (slot_bits slot.now)) }
 {
@@ -167,7 +166,7 @@ fn more_slot(count: u64, net: u32, slot: &SlotUse) -> u64
     more(count, net, slot.wrbe.as_slice())
 }
 
-#[tactic(auto, using(crate::proofs::Using::then))]
+#[tactic(auto, using(crate::proofs::Using::uses_joined))]
 fn more_slots(count: u64, net: u32, slots: &[SlotUse]) -> u64
     ensures { result ≡ spec.capped (count + spec.uses_in net (flat_map slot_bits slots.now)) }
 {
@@ -180,14 +179,14 @@ fn more_slots(count: u64, net: u32, slots: &[SlotUse]) -> u64
     count
 }
 
-#[tactic(auto, using(crate::proofs::Using::then))]
+#[tactic(auto, using(crate::proofs::Using::uses_joined))]
 fn more_ram(count: u64, net: u32, ram: &RamCell) -> u64
     ensures { result ≡ spec.capped (count + spec.uses_in net (ram_bits ram.now)) }
 {
     more_slots(count, net, ram.slots.as_slice())
 }
 
-#[tactic(auto, using(crate::proofs::Using::then))]
+#[tactic(auto, using(crate::proofs::Using::uses_joined))]
 fn more_rams(count: u64, net: u32, rams: &[RamCell]) -> u64
     ensures { result ≡ spec.capped (count + spec.uses_in net (flat_map ram_bits rams.now)) }
 {
@@ -210,7 +209,7 @@ fn more_pin(count: u64, net: u32, pin: &Pin) -> u64
     }
 }
 
-#[tactic(auto, using(crate::proofs::Using::then))]
+#[tactic(auto, using(crate::proofs::Using::uses_joined))]
 fn more_pins(count: u64, net: u32, pins: &[Pin]) -> u64
     ensures { result ≡ spec.capped (count + spec.uses_in net (flat_map spec.pin_bits pins.now)) }
 {
@@ -223,7 +222,7 @@ fn more_pins(count: u64, net: u32, pins: &[Pin]) -> u64
     count
 }
 
-#[tactic(auto, using(crate::proofs::Using::then))]
+#[tactic(auto, using(crate::proofs::Using::uses_joined))]
 fn more_carried(count: u64, net: u32, cells: &[Carried]) -> u64
     ensures { result ≡ spec.capped (count + spec.uses_in net (flat_map spec.carried_reads cells.now)) }
 {
@@ -236,7 +235,7 @@ fn more_carried(count: u64, net: u32, cells: &[Carried]) -> u64
     count
 }
 
-#[tactic(auto, using(crate::proofs::Using::then))]
+#[tactic(auto, using(crate::proofs::Using::uses_joined))]
 fn more_parts(count: u64, net: u32, parts: &[MemPart]) -> u64
     ensures { result ≡ spec.capped (count + spec.uses_in net (flat_map spec.part_reads parts.now)) }
 {
@@ -259,7 +258,7 @@ fn more_wire(count: u64, net: u32, wire: &Wire) -> u64
     }
 }
 
-#[tactic(auto, using(crate::proofs::Using::then))]
+#[tactic(auto, using(crate::proofs::Using::uses_joined))]
 fn more_wires(count: u64, net: u32, wires: &[Wire]) -> u64
     ensures { result ≡ spec.capped (count + spec.uses_in net (flat_map spec.output_bits wires.now)) }
 {
@@ -275,7 +274,7 @@ fn more_wires(count: u64, net: u32, wires: &[Wire]) -> u64
 /// The number of places where the net stands in a pin of a cell that reads, in a pin of a memory port
 /// or a RAM cell that reads, or in an output wire; where it stands twice in one pin, both count. Past
 /// the greatest number of 64 bits it is that number. It takes no memory.
-#[tactic(auto, using(crate::proofs::Using::then))]
+#[tactic(auto, using(crate::proofs::Using::uses_joined))]
 pub fn users(module: &Module, net: u32) -> u64
     ensures { result ≡ spec.capped (spec.users_of «module».now net) }
 {
