@@ -55,13 +55,15 @@ numbered_named front n made h =
 
 -- the names of two modules: the second has those of the first, and maybe one more
 pub more_free : (front : List ℕ) (count : ℕ) (old new : List (List ℕ)) (name : List ℕ) → name ≡ numbered front count → count < 2 ^ 64 → ((x : List ℕ) → Has new x → Has old x ⊎ (name ≡ x)) → AreFree front count old → AreFree front (count + 1) new
-more_free front count old new name is small cases free = record { apart = λ k x there i low high same. elim (cases x (k, there)) [
-  | inl (j, at) ↦ free.apart j x at i (omega (arith, low)) high same
-  | inr e ↦
-      let f : numbered front count ≡ numbered front i = sym is ∙ (e ∙ same) in
-      let n = decimal_injective count i small high (append_cancel_left front (decimal count) (decimal i) f) in
-      absurd (omega (arith, n, low))
-] }
+more_free front count old new name is small cases free = record {
+  apart = λ k x there i low high same. elim (cases x (k, there)) [
+    | inl (j, at) ↦ free.apart j x at i (omega (arith, low)) high same
+    | inr e ↦
+        let f : numbered front count ≡ numbered front i = sym is ∙ (e ∙ same) in
+        let n = decimal_injective count i small high (append_cancel_left front (decimal count) (decimal i) f) in
+        absurd (omega (arith, n, low))
+  ];
+}
 
 pub fewer_free : (front : List ℕ) (count : ℕ) (old new : List (List ℕ)) → ((x : List ℕ) → Has new x → Has old x) → AreFree front count old → AreFree front count new
 fewer_free front count old new has free = record { apart = λ k x there i low high same. let (j, at) = has x (k, there) in free.apart j x at i low high same }

@@ -11,3 +11,4 @@ pub mod Using
 pub mod Splicing
 pub mod Redirecting
 pub mod RedirectedOrder
+pub mod Dropping

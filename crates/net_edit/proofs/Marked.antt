@@ -126,7 +126,12 @@ starts_itself [] b = refl
 starts_itself (x ∷ a) b = both (nat_eq x x) (starts_with nat_eq (a ++ b) a) (eq-eqb x x refl) (starts_itself a b)
 
 pub front_is_free : (names : List (List ℕ)) (text : List ℕ) → text ≡ marked (most_marks 0 names) → IsFront text × AreFree text 0 names
-front_is_free names text is = (record { marks = most_marks 0 names; is = is }, record { apart = λ k x there i low high same.
-    let begins : starts_with nat_eq x (marked (most_marks 0 names)) ≡ true =
+front_is_free names text is = (
+  record { marks = most_marks 0 names; is = is },
+  record {
+    apart = λ k x there i low high same.
+        let begins : starts_with nat_eq x (marked (most_marks 0 names)) ≡ true =
         ap (λ y. starts_with nat_eq y (marked (most_marks 0 names))) (same ∙ ap (λ t. t ++ decimal i) is) ∙ starts_itself (marked (most_marks 0 names)) (decimal i) in
-    absurd (omega (arith, begins_asks x (most_marks 0 names) begins, each_most 0 names k x there)) })
+        absurd (omega (arith, begins_asks x (most_marks 0 names) begins, each_most 0 names k x there));
+  },
+)

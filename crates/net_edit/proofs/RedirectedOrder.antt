@@ -44,7 +44,7 @@ module _ (reads : List Bit) where
   comb_by : (c : Comb) → IsReadBy (comb_node c) (comb_node (redirected_comb reads c))
   comb_by c =
       let whole : bits_read reads c.a ++ bits_read reads c.b ++ bits_read reads c.s ≡ bits_read reads (c.a ++ c.b ++ c.s) =
-          ap (λ l. l ++ bits_read reads c.s) (sym (map_joined (bit_read reads) c.a c.b)) ∙ sym (map_joined (bit_read reads) (c.a ++ c.b) c.s) in
+      ap (λ l. l ++ bits_read reads c.s) (sym (map_joined (bit_read reads) c.a c.b)) ∙ sym (map_joined (bit_read reads) (c.a ++ c.b) c.s) in
       record { drives = refl; needs = λ x at. net_from (c.a ++ c.b ++ c.s) x (subst (λ l. HasNet l x) whole at) }
 
   reg_by : (r : Reg) → IsReadBy (reg_node r) (reg_node (redirected_reg reads r))

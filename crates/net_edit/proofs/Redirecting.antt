@@ -201,6 +201,7 @@ module _ (reads : List Bit) where
       either_bits : (b : Bool) (bits : List Bit) → ((n : ℕ) → HasNet bits n → IsOwn reads n) → cond b bits (bits_read reads bits) ≡ bits
       either_bits true bits h = refl
       either_bits false bits h = own_bits reads bits h
+
       by_test : (b : Bool) → ((n : ℕ) → HasNet (bits_of_pins (cond b (p ∷ filter test ps) (filter test ps))) n → IsOwn reads n) → (((n : ℕ) → HasNet (bits_of_pins (filter test ps)) n → IsOwn reads n) → bits_of_pins (filter test (map (redirected_pin reads) ps)) ≡ bits_of_pins (filter test ps)) → bits_of_pins (cond b (redirected_pin reads p ∷ filter test (map (redirected_pin reads) ps)) (filter test (map (redirected_pin reads) ps))) ≡ bits_of_pins (cond b (p ∷ filter test ps) (filter test ps))
       by_test true h rest =
           let one = either_bits p.drives p.bits (λ n at. h n (has_left p.bits (bits_of_pins (filter test ps)) n at)) in

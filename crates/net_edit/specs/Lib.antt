@@ -5,3 +5,4 @@ pub mod Users
 pub mod Ranks
 pub mod Laws
 pub mod Aliases
+pub mod Drops

@@ -1,6 +1,5 @@
 //! A module under edit.
-ghost use Rattle.std.specs.Prelude.{◌≡◌, ◌+◌, ◌<◌, ◌≤◌, ◌++◌, ◌∷◌, [], length, slice_set, IfOk, OnOk, OnErr};
-ghost use Rattle.std.specs.List.{remove};
+ghost use Rattle.std.specs.Prelude.{◌≡◌, ◌+◌, ◌^◌, ◌<◌, ◌≤◌, length, IfOk, OnOk, OnErr};
 ghost use Rattle.net_edit.specs.Edits as spec;
 ghost use Rattle.net_edit.specs.Redirect.{finished};
 ghost use Rattle.net_edit.specs.Laws.{CanAlias, with_alias};
@@ -109,7 +108,11 @@ impl Edit {
     pub fn finish(self) -> Module
         ensures { result ≡ finished self }
     {
-        let Edit { mut module, reads, .. } = self;
+        let Edit {
+            mut module,
+            reads,
+            ..
+        } = self;
         redirect(reads.as_slice(), &mut module);
         module
     }

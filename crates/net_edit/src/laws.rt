@@ -1,5 +1,6 @@
 //! Laws about edits, each the contract of a function that does nothing.
 ghost use Rattle.net_edit.specs.Aliases.{RedirectedSimulates, RedirectedIsOrdered, RedirectedHasOneDriver, RedirectedIsWithin, AliasIsRedirection};
+ghost use Rattle.net_edit.specs.Drops.{DroppedCombIsOrdered, DroppedRegIsOrdered, SplicedIsOrdered, StretchedIsOrdered};
 ghost use Rattle.net_edit.specs.Laws.{CutHasRanks, AddedCombIsOrdered, AddedRegIsOrdered, AddedNetsSimulate, AddedCombSimulates, AddedRegSimulates, AddedCombHasOneDriver, AddedRegHasOneDriver, AddedCombIsWithin, AddedRegIsWithin};
 
 /// A node that does not reach what it needs has ranks along which it rises.
@@ -78,4 +79,25 @@ pub fn redirected_is_within()
 /// One more alias keeps every driven net and every inout bit read as itself.
 pub fn alias_is_redirection()
     ensures { AliasIsRedirection }
+{}
+
+/// An order is one of the module without a logic cell.
+pub fn dropped_comb_is_ordered()
+    ensures { DroppedCombIsOrdered }
+{}
+
+/// An order is one of the module without a register.
+pub fn dropped_reg_is_ordered()
+    ensures { DroppedRegIsOrdered }
+{}
+
+/// An order along whose ranks the reads of memories rise is one of the module with these in the
+/// place of a memory.
+pub fn spliced_is_ordered()
+    ensures { SplicedIsOrdered }
+{}
+
+/// The ranks of an order may be stretched.
+pub fn stretched_is_ordered()
+    ensures { StretchedIsOrdered }
 {}

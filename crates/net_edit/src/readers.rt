@@ -4,7 +4,9 @@ ghost use Rattle.std.specs.List.{flat_map};
 ghost use Rattle.net_core.specs.Pins.{comb_bits, reg_bits, read_bits, write_bits, mem_bits, slot_bits, ram_bits};
 ghost use Rattle.net_edit.specs.Users as spec;
 
-use net_core::{Bit, Carried, Comb, Mem, MemPart, Module, Pin, RamCell, RdPort, Reg, SlotUse, Wire, WrPort};
+use net_core::{
+    Bit, Carried, Comb, Mem, MemPart, Module, Pin, RamCell, RdPort, Reg, SlotUse, Wire, WrPort,
+};
 
 /// Whether the bit is this net.
 fn is_net_of(net: u32, bit: Bit) -> bool
