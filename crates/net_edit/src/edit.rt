@@ -1,5 +1,5 @@
 //! A module under edit.
-ghost use Rattle.std.specs.Prelude.{◌≡◌, ◌+◌, ◌^◌, ◌<◌, ◌≤◌, length, IfOk, OnOk, OnErr};
+ghost use Rattle.std.specs.Prelude.{◌≡◌, ◌+◌, ◌^◌, ◌<◌, ◌≤◌, ◌++◌, length, IfOk, OnOk, OnErr};
 ghost use Rattle.net_edit.specs.Edits as spec;
 ghost use Rattle.net_edit.specs.Redirect.{finished};
 ghost use Rattle.net_edit.specs.Laws.{CanAlias, with_alias};
@@ -59,6 +59,24 @@ fn bits_of(alloc: Global, nets: &[u32]) -> Result<Vec<Bit>, Memory>
     ensures { IfOk result (λ bits. bits.items ≡ spec.as_bits nets.now) }
 {
     Ok(nets.iter().map(|net| Bit::Net(*net)).collect(alloc)?)
+}
+
+/// So many nets, numbered on from one; each of them is read as itself. Without memory nothing changes.
+fn read_more(
+    alloc: Global,
+    reads: &mut Vec<Bit>,
+    first: u32,
+    count: u32,
+) -> Result<List<u32>, Memory>
+    requires { first + count < 2 ^ 32 }
+    ensures nets { IfOk result (λ nets. nets ≡ spec.nets_from first count) }
+    ensures ok { OnOk result (reads.new.items ≡ reads.old.items ++ spec.bits_from first count) }
+    ensures err { OnErr result (reads.new.items ≡ reads.old.items) }
+{
+    let nets = nets_from(alloc, first, count)?;
+    let mut bits = bits_of(alloc, nets.as_slice())?;
+    reads.append(&mut bits)?;
+    Ok(nets)
 }
 
 /// Rotates the items from a place on to the right.
@@ -131,11 +149,13 @@ impl Edit {
         if seen > MOST_NETS {
             return Err(EditFault::Full { seen });
         }
-        let nets = nets_from(self.alloc, first, count)?;
-        let mut bits = bits_of(self.alloc, nets.as_slice())?;
-        self.reads.append(&mut bits)?;
-        self.module.nets = first + count;
-        Ok(nets)
+        match read_more(self.alloc, &mut self.reads, first, count) {
+            Ok(nets) => {
+                self.module.nets = first + count;
+                Ok(nets)
+            }
+            Err(Memory) => Err(EditFault::Memory),
+        }
     }
 
     /// Puts a logic cell behind the others, under a fresh name in the place of its own. Where it is
