@@ -1,0 +1,14 @@
+pub mod Lists
+pub mod Ranges
+pub mod Marked
+pub mod FreshNames
+pub mod Named
+pub mod Heights
+pub mod Places
+pub mod Adding
+pub mod Mapping
+pub mod Using
+pub mod Splicing
+pub mod Redirecting
+pub mod RedirectedOrder
+pub mod Dropping

@@ -1,0 +1,6 @@
+use Rattle.net_core.specs.Pins.{comb_bits}
+use Rattle.net_edit.proofs.Using.{ended}
+use Rattle.net_edit.proofs.readers.more_combs.Goals as goal
+
+pub returns : goal.returns
+returns c = ended comb_bits c.args.net c.loop-rest.count _ c.loop-rest.rest.now c.in_default.len_below c.loop-rest.invariant.low c.loop-rest.invariant.left

@@ -1,0 +1,23 @@
+//! Why an edit gives no new nets.
+use lib_core::Memory;
+use std::alloc::AllocError;
+
+/// Why there are no new nets.
+#[derive(Clone, Copy, Debug, PartialEq, Eq)]
+pub enum EditFault {
+    /// The module would have more nets than a module may: so many.
+    Full { seen: u64 },
+    Memory,
+}
+
+impl From<Memory> for EditFault {
+    fn from(_memory: Memory) -> EditFault {
+        EditFault::Memory
+    }
+}
+
+impl From<AllocError> for EditFault {
+    fn from(_error: AllocError) -> EditFault {
+        EditFault::Memory
+    }
+}
