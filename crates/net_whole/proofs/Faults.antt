@@ -1,5 +1,5 @@
 -- The faults of the steps are faults of the whole.
-use Rattle.std.proofs.Common.{◌≡◌, [], map, Some, slice_get, ◌⊎◌, inl, inr, refl, sym, subst, ap}
+use Rattle.std.proofs.Common.{◌≡◌, Some, slice_get, ◌⊎◌, inl, inr}
 use Rattle.lib_core.specs.declared.library.Library.{Library}
 use Rattle.rtlil_text.specs.declared.doc.Doc.{Doc}
 use Rattle.net_core.specs.declared.modules.Design.{Design}
@@ -11,7 +11,6 @@ use Rattle.net_build.specs.declared.fault.BuildFault.{BuildFault}
 use Rattle.net_build.specs.Builds.{FirstFails, IsWant}
 use Rattle.net_collect.specs.declared.fault.DesignFault.{DesignFault}
 use Rattle.net_collect.specs.Collected.{faults_in}
-use Rattle.net_whole.specs.declared.fault.WholeFault.TheVariants as fault
 use Rattle.net_whole.specs.Whole.{IsBuiltOf, IsUncollected, IsFault, build_fault_by, build_fault, collect_fault_by, collect_fault}
 
 built_by : (doc : Doc) (lib : Library) (c : BuildCode) (f : BuildFault) → ((c ≡ code.Memory → ⊥) → FirstFails lib doc.modules doc.modules f) → IsFault doc lib (build_fault_by c f)

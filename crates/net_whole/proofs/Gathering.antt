@@ -1,14 +1,12 @@
 -- What collecting answers of a module refines it.
-use Rattle.std.proofs.Common.{◌≡◌, [], refl, sym, subst, ap}
-use Rattle.std.specs.Prelude.{Ok}
-use Rattle.lib_core.specs.declared.library.Library.{Library}
-use Rattle.net_core.specs.declared.modules.Module.{Module}
+use Rattle.std.proofs.Common.{subst, ap}
 use Rattle.net_core.specs.Ports.{carried_of, inputs_of, ports_of}
 use Rattle.net_core.specs.Runs.{HasTrace}
-use Rattle.net_collect.specs.Collected.{collected, Collects}
-use Rattle.net_whole.specs.Parts.{GathersModule, CollectedRefines}
+use Rattle.net_collect.specs.Collected.{collected}
+use Rattle.net_whole.specs.Parts.{CollectedRefines}
 
 pub gathers : CollectedRefines
+unfolding collected
 gathers lib m n made = record {
   inputs = ap inputs_of made.1;
   ports = ap ports_of made.1;

@@ -2,7 +2,7 @@
 ghost use Rattle.net_whole.specs.Parts.{CollectedRefines};
 
 /// The module with whole memories does only what the module in parts may do.
-#[tactic(auto, using(crate::proofs::Gathering::gathers))]
+
 pub fn collected_refines()
     ensures { CollectedRefines }
 {}
