@@ -1,0 +1,5 @@
+pub mod Locality
+pub mod Placing
+pub mod Workings
+pub mod Settling
+pub mod Writing

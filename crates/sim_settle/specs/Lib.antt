@@ -1,0 +1,5 @@
+pub mod FreeKinds
+pub mod Places
+pub mod Nets
+pub mod Working
+pub mod Schedules
