@@ -1,5 +1,8 @@
 pub mod Locality
+pub mod Marking
 pub mod Placing
-pub mod Workings
+pub mod Pushing
 pub mod Settling
+pub mod Showing
+pub mod Workings
 pub mod Writing

@@ -25,7 +25,7 @@ use Rattle.sim_settle.proofs.Placing.{node_stands}
 use Rattle.sim_settle.proofs.Workings.{driver_is, never_input, all_say, others_kept}
 
 -- a free net is driven by no place, and neither is an input
-free_apart : (m : Module) (n : ℕ) → IsFree m n → (at : NodePlace) (p : Node) → node_at m at ≡ Some p → Drives p n → ⊥
+pub free_apart : (m : Module) (n : ℕ) → IsFree m n → (at : NodePlace) (p : Node) → node_at m at ≡ Some p → Drives p n → ⊥
 free_apart m n free at p h drives = let w = node_stands m at p h in free.nodes w.0 p w.1 drives
 
 input_apart : (m : Module) → HasOneDriver m → (k n : ℕ) → slice_get (inputs_of m) k ≡ Some n → (at : NodePlace) (p : Node) → node_at m at ≡ Some p → Drives p n → ⊥

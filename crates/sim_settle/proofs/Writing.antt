@@ -1,14 +1,14 @@
 -- Bits that are written to nets one after the other.
-use Rattle.std.proofs.Common.{◌≡◌, ◌≢◌, ℕ, zero, suc, ◌+◌, ◌<◌, Bool, false, List, [], ◌∷◌, length, set, get_or, Some, refl, sym, ap, ◌∙◌, ⊎_elim, arith}
+use Rattle.std.proofs.Common.{◌≡◌, ◌≢◌, ℕ, zero, suc, ◌+◌, ◌<◌, ◌≤◌, Bool, false, List, [], ◌∷◌, length, set, get_or, Some, refl, sym, ap, ◌∙◌, subst, ⊎_elim, arith}
 use Rattle.std.specs.Prelude.{slice_get}
 use Rattle.std.proofs.lemmas.List.{get_or-set_same, get_or-set_other}
 use Rattle.std.proofs.lemmas.Bool.{cases_eq}
-use Rattle.std.proofs.lemmas.Option.{same_Some}
+use Rattle.std.proofs.lemmas.Option.{same_Some, slice_get-get_or}
 use Rattle.net_core.specs.Values.{Valuation, bit_at}
 use Rattle.net_core.proofs.Basics.{get_below}
-use Rattle.sim_settle.specs.Nets.{IsAmong, AreApart, Writes, Fills}
+use Rattle.sim_settle.specs.Nets.{IsAmong, AreApart, AreBelow, Writes, Fills}
 
-bit_at_is : (xs : List Bool) (k : ℕ) → bit_at xs k ≡ get_or xs k false
+pub bit_at_is : (xs : List Bool) (k : ℕ) → bit_at xs k ≡ get_or xs k false
 bit_at_is [] k = refl
 bit_at_is (x ∷ xs) zero = refl
 bit_at_is (x ∷ xs) (suc k) = bit_at_is xs k
@@ -76,3 +76,29 @@ all_filled nets bits old new all = record {
   filled = λ n (k, h). all.filled k n (get_below nets k n h) h;
   kept = λ n none. all.kept n (λ k lt h. none (k, h));
 }
+
+pub filled_up : (nets : List ℕ) (bits : ℕ → Bool) (old new : Valuation) (i : ℕ) → length nets ≤ i → Filled i nets bits old new → Filled (length nets) nets bits old new
+filled_up nets bits old new i end all = record {
+  filled = λ k n lt h. all.filled k n (omega (arith, end, lt)) h;
+  kept = λ n none. all.kept n (λ k lt h. none k (get_below nets k n h) h);
+}
+
+pub wrote_up : (nets : List ℕ) (bits : ℕ → Bool) (old new : Valuation) (i : ℕ) → length nets ≤ i → Wrote i nets bits old new → Wrote (length nets) nets bits old new
+wrote_up nets bits old new i end all = record {
+  written = λ k n lt h. all.written k n (omega (arith, end, lt)) h;
+  kept = λ n none. all.kept n (λ k lt h. none k (get_below nets k n h) h);
+}
+
+pub read_at : (nets : List ℕ) (i : ℕ) → i < length nets → slice_get nets i ≡ Some (get_or nets i 0)
+read_at nets i lt = slice_get-get_or nets i 0 lt
+
+pub within_values : (old now : ℕ) (nets : List ℕ) (i x : ℕ) → AreBelow old nets → slice_get nets i ≡ Some x → now ≡ old → x < now
+within_values old now nets i x below here same = let lt = below i x here in omega (arith, lt, same)
+
+-- one more bit of a list that is filled from its low end
+pub one_more : (f : ℕ → Bool) (xs : List Bool) (at : ℕ) (bit : Bool) → at < length xs → bit ≡ f at → ((j : ℕ) → j < at → bit_at xs j ≡ f j) → (j : ℕ) → j < at + 1 → bit_at (set xs at bit) j ≡ f j
+one_more f xs at bit inside is each j lt =
+    ⊎_elim
+    (λ (same : j ≡ at). ap (bit_at (set xs at bit)) same ∙ bit_set xs at bit inside ∙ is ∙ ap f (sym same))
+    (λ (other : j ≢ at). bit_other xs at j bit other ∙ each j (below j at lt other))
+    (cases_eq j at)

@@ -19,6 +19,10 @@ node_at m (place.Slot i j) = option_and_then (λ (c : RamCell). option_map slot_
 abbrev pub HasNode : Module → NodePlace → Type 0
 HasNode m at = (p : Node) × (node_at m at ≡ Some p)
 
+-- there is a node at each of these places
+abbrev pub HaveNodes : Module → List NodePlace → Type 0
+HaveNodes m work = (a : ℕ) (at : NodePlace) → slice_get work a ≡ Some at → HasNode m at
+
 -- so many places, counted from 0
 abbrev pub each_place : (ℕ → NodePlace) → ℕ → List NodePlace
 each_place f count = map f (range_with_len 0 count)

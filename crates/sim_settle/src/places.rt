@@ -110,12 +110,8 @@ fn push_mems(places: &mut Vec<NodePlace>, mems: &[Mem]) -> Result<(), Memory>
     requires reads { (i : ℕ) (x : Mem) → slice_get mems.now i ≡ Some x → length x.reads ≤ 2 ^ 32 }
     ensures { OnOk result (places.new.items ≡ places.old.items ++ all_places read_places 0 mems.now) }
 {
-    let mut rest = mems;
-    let mut index: u32 = 0;
-    while let [mem, tail @ ..] = rest {
-        push_reads(places, index, mem.reads.as_slice().len())?;
-        index += 1;
-        rest = tail;
+    for (index, mem) in mems.iter().enumerate() {
+        push_reads(places, index as u32, mem.reads.as_slice().len())?;
     }
     Ok(())
 }
@@ -126,12 +122,8 @@ fn push_rams(places: &mut Vec<NodePlace>, rams: &[RamCell]) -> Result<(), Memory
     requires slots { (i : ℕ) (c : RamCell) → slice_get rams.now i ≡ Some c → length c.slots ≤ 2 ^ 32 }
     ensures { OnOk result (places.new.items ≡ places.old.items ++ all_places slot_places 0 rams.now) }
 {
-    let mut rest = rams;
-    let mut index: u32 = 0;
-    while let [cell, tail @ ..] = rest {
-        push_slots(places, index, cell.slots.as_slice().len())?;
-        index += 1;
-        rest = tail;
+    for (index, cell) in rams.iter().enumerate() {
+        push_slots(places, index as u32, cell.slots.as_slice().len())?;
     }
     Ok(())
 }
