@@ -9,10 +9,10 @@ use Rattle.sim_settle.specs.Schedules.{IsSchedule}
 use Rattle.sim_state.specs.SimStates.{IsSimState}
 
 -- The module can run, the schedule and the state are its own, and there is room for the values of its nets and of each node.
-pub record IsSound (lib : Library) (m : Module) (s : Schedule) (look : SimLook) (values picks shown : List Bool) : Type 0 where
+pub record IsSound (lib : Library) (m : Module) (s : Schedule) (look : SimLook) (bits first second : List Bool) : Type 0 where
   pub can : CanRun lib m
   pub schedule : IsSchedule m s
   pub state : IsSimState lib m look
-  pub values : length values ≡ m.nets
-  pub picks : length picks ≡ s.width
-  pub shown : length shown ≡ s.width
+  pub values : length bits ≡ m.nets
+  pub picks : length first ≡ s.width
+  pub shown : length second ≡ s.width

@@ -64,7 +64,7 @@ impl Sim {
     {
         let schedule = schedule(alloc, module, library)?;
         let state = SimState::new(alloc, module, library, seed)?;
-        let nets = nets(alloc, module.nets as usize, schedule.width)?;
+        let nets = room_for(alloc, module.nets as usize, schedule.width)?;
         let module = module.twin(alloc)?;
         let library = library.twin(alloc)?;
         Ok(Sim {
@@ -140,7 +140,7 @@ fn schedule(alloc: Global, module: &Module, library: &Library) -> Result<Schedul
 }
 
 /// The values of so many nets, and room for so many bits of a node.
-fn nets(alloc: Global, count: usize, width: usize) -> Result<Nets, Memory>
+fn room_for(alloc: Global, count: usize, width: usize) -> Result<Nets, Memory>
     ensures { IfOk result (λ nets. (length nets.values.items ≡ count) × (length nets.picks.items ≡ width) × (length nets.shown.items ≡ width)) }
 {
     Ok(Nets {

@@ -9,7 +9,7 @@ ghost use Rattle.picked_run.specs.Conditions.{CanRun};
 ghost use Rattle.picked_run.specs.PickedRuns.{IsShown};
 ghost use Rattle.ram_step.specs.Moments.{valuation};
 ghost use Rattle.cycle_sim.specs.Views.{HasInputs};
-ghost use Rattle.cycle_sim.specs.Traces.{HaveInputs, AreShown, ShowsEvent, IsJob};
+ghost use Rattle.cycle_sim.specs.Traces.{HaveInputs, AreShown, ShowsEvent, ShowsFrom, IsJob};
 
 use crate::sim::Sim;
 use lib_core::{Library, List, Memory};
@@ -34,9 +34,26 @@ pub fn trace_one(
 {
     let outputs = outputs(alloc, module)?;
     let mut sim = Sim::new(alloc, module, library, seed)?;
+    let lines = run_all(alloc, &mut sim, outputs.as_slice(), events.as_slice())?;
+    Ok(lines)
+}
+
+/// The values of the outputs at events that follow each other.
+fn run_all(
+    alloc: Global,
+    sim: &mut Sim,
+    outputs: &[Bit],
+    events: &[Event],
+) -> Result<List<List<bool>>, Memory>
+    requires outputs { outputs.now ≡ outputs_of sim.old.unit }
+    requires nets { (n : ℕ) → HasNet outputs.now n → n < sim.old.unit.nets }
+    requires few { sim.old.steps + length events.now ≤ 65536 }
+    requires inputs { HaveInputs sim.old.unit events.now }
+    ensures { IfOk result (λ lines. ShowsFrom sim.old.library sim.old.unit sim.old.seed sim.old.steps sim.old.state events.now lines) }
+{
     let mut lines = Vec::new(alloc);
-    for event in events.as_slice() {
-        lines.push(run_event(alloc, &mut sim, outputs.as_slice(), event)?)?;
+    for event in events {
+        lines.push(run_event(alloc, sim, outputs, event)?)?;
     }
     Ok(List::from_vec(lines))
 }
