@@ -1,2 +1,3 @@
 pub mod Views
+pub mod Settling
 pub mod Traces

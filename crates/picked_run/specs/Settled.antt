@@ -1,6 +1,6 @@
 -- The values of the nets at an event, each free choice picked: the inputs have their values, every cell shows what its state
 -- and its pins give, and a net that nothing drives has its pick.
-use Rattle.std.specs.Prelude.{◌≡◌, ℕ, Bool, List, Some, slice_get}
+use Rattle.std.specs.Prelude.{◌≡◌, ℕ, ◌<◌, Bool, List, Some, slice_get}
 use Rattle.lib_core.specs.declared.library.Library.{Library}
 use Rattle.lib_core.specs.declared.library.Variant.{Variant}
 use Rattle.lib_core.specs.Picks.{picked}
@@ -29,7 +29,7 @@ pub record IsFree (m : Module) (n : ℕ) : Type 0 where
   pub nodes : (i : ℕ) (p : Node) → slice_get (nodes_of m) i ≡ Some p → Drives p n → ⊥
 
 pub record IsSettled (lib : Library) (m : Module) (seed t : ℕ) (e : Event) (s : SimLook) (v : Valuation) : Type 0 where
-  pub free : (n : ℕ) → IsFree m n → v n ≡ picked seed t 0 n
+  pub free : (n : ℕ) → n < m.nets → IsFree m n → v n ≡ picked seed t 0 n
   pub inputs : (k n : ℕ) (b : Bool) → slice_get (inputs_of m) k ≡ Some n → slice_get e.values k ≡ Some b → v n ≡ b
   pub combs : (i : ℕ) (c : Comb) → slice_get m.combs i ≡ Some c → (k n : ℕ) → slice_get c.y k ≡ Some n → v n ≡ taken (key_of seed t (comb_number i)) k (comb_shows c v k)
   pub regs : (i : ℕ) (r : Reg) (kept : List Bool) → slice_get m.regs i ≡ Some r → slice_get s.regs i ≡ Some kept → (k n : ℕ) → slice_get r.q k ≡ Some n → v n ≡ reg_shown r v (key_of seed t (reg_number m i)) kept k

@@ -1,0 +1,25 @@
+-- What the parts of a simulation say of what contracts see of it.
+use Rattle.std.proofs.Common.{◌≡◌, ℕ, ◌+◌, Bool, true, false, List, length, Option, Some, None, refl, sym, ap, subst, ◌∙◌}
+use Rattle.std.specs.Prelude.{slice_get}
+use Rattle.std.proofs.lemmas.Option.{same_Some}
+use Rattle.net_core.specs.declared.bits.Event.{Event}
+use Rattle.net_core.specs.Ports.{inputs_of}
+use Rattle.ram_step.specs.Moments.{valuation}
+use Rattle.picked_run.specs.Settled.{IsSettled}
+use Rattle.cycle_sim.specs.Views.{SimView, settled_values, with_values, stepped_view, HasSettled, SettledWith, ShowsInputs, AreInputsOf}
+
+pub values_are : (settled : Bool) (items values : List Bool) → settled_values settled items ≡ Some values → items ≡ values
+values_are true items values h = same_Some items values h
+values_are false items values h = cc
+
+-- the settled values of a view that differs from an earlier one in them alone
+pub settled_like : (old now : SimView) (e : Event) (values : List Bool) → now ≡ with_values old now.values → SettledWith now e values → SettledWith old e values
+settled_like old now e values same h =
+    let P : SimView → Type 0 = λ z. SettledWith z e values in
+    subst P same h
+
+pub stepped_like : (old now next : SimView) (e : Event) (values : List Bool) → now ≡ with_values old now.values → next ≡ stepped_view now e values → next ≡ stepped_view old e values
+stepped_like old now next e values same h = h ∙ ap (λ z. stepped_view z e values) same
+
+pub shows_inputs : (s : SimView) (e : Event) → HasSettled s e → ShowsInputs s e
+shows_inputs s e (values, is, settled) = (values, is, λ k n b hk hb. settled.inputs k n b hk hb)
