@@ -1,0 +1,5 @@
+pub mod Adds
+pub mod Cells
+pub mod Meanings
+pub mod Registers
+pub mod Laws

@@ -1,0 +1,29 @@
+//! Addresses in a range.
+ghost use Rattle.std.specs.Prelude.{◌≡◌, ◌+◌, IfOk};
+ghost use Rattle.net_gates.specs.Adds.{AddsBit, IsReady};
+ghost use Rattle.net_gates.specs.Meanings as spec;
+
+use crate::compare::less_const;
+use crate::gates::{and_gate, not_gate};
+use net_core::Bit;
+use net_edit::{Edit, EditFault};
+use std::alloc::Global;
+
+/// A bit that is 1 where an address, low bit first, is not below the first of a range and below its
+/// end.
+pub fn in_range(
+    alloc: Global,
+    edit: &mut Edit,
+    addr: &[Bit],
+    first: u32,
+    end: u32,
+) -> Result<Bit, EditFault>
+    requires { IsReady edit.old addr.now }
+    ensures { IfOk result (λ y. AddsBit edit.old edit.new addr.now y (spec.is_within addr.now first end)) }
+{
+    let below = less_const(alloc, edit, addr, first)?;
+    let reached = not_gate(alloc, edit, below)?;
+    let before = less_const(alloc, edit, addr, end)?;
+    let y = and_gate(alloc, edit, reached, before)?;
+    Ok(y)
+}
