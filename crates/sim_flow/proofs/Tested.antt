@@ -21,17 +21,20 @@ use Rattle.net_live.specs.Driving.{bit_below}
 use Rattle.net_live.specs.Sound.{IsSound}
 use Rattle.net_live.proofs.Needing.{net_below}
 use Rattle.picked_run.specs.Conditions.{CanRun, RamRuns, VariantRuns}
-use Rattle.sim_flow.specs.Testing.{ram_runs, some_widths, HasCounts, HasPorts}
+use Rattle.sim_flow.specs.Testing.{ram_runs, some_widths, HasCounts, InputsWithin, OutputsWithin, HasPorts}
 
 both : (a b : Bool) → (a && b) ≡ true → (a ≡ true) × (b ≡ true)
 both true b h = (refl, h)
 both false b h = cc
 
-pub ports_are : (m : Module) → list_all (λ n. nat_lt n m.nets) (inputs_of m) ≡ true → list_all (bit_below m.nets) (outputs_of m) ≡ true → HasPorts m
-ports_are m ins outs = record {
-  inputs = λ k n at. ltb-true n m.nets (all_at (λ j. nat_lt j m.nets) (inputs_of m) ins k n at);
-  outputs = λ n has. net_below m.nets (record { drives = []; needs = outputs_of m }) outs n has;
-}
+pub inputs_are : (m : Module) → list_all (λ n. nat_lt n m.nets) (inputs_of m) ≡ true → InputsWithin m
+inputs_are m ins = record { each = λ k n at. ltb-true n m.nets (all_at (λ j. nat_lt j m.nets) (inputs_of m) ins k n at) }
+
+pub outputs_are : (m : Module) → list_all (bit_below m.nets) (outputs_of m) ≡ true → OutputsWithin m
+outputs_are m outs = record { each = λ n has. net_below m.nets (record { drives = []; needs = outputs_of m }) outs n has }
+
+pub ports_are : (m : Module) → InputsWithin m → OutputsWithin m → HasPorts m
+ports_are m ins outs = record { inputs = ins; outputs = outs }
 
 -- the variant of a cell is within the limits of its library
 from_ram : (lib : Library) (c : RamCell) (o : Option RamKind) (x : Variant) → LibraryLimits lib → slice_get lib.rams c.ram ≡ o → option_and_then (λ (k : RamKind). slice_get k.variants c.variant) o ≡ Some x → VariantLimits x
@@ -67,8 +70,8 @@ runs_are lib m limits rams counts ports sound = record {
   declared = sound.no_declared;
   parts = sound.no_parts;
   nets = sound.within;
-  inputs = ports.inputs;
-  outputs = ports.outputs;
+  inputs = ports.inputs.each;
+  outputs = ports.outputs.each;
   driven = sound.one_driver;
   reads_agree = sound.reads_agree;
   ordered = sound.ordered;

@@ -24,7 +24,13 @@ pub record HasCounts (m : Module) : Type 0 where
   pub few_mems : IsCounted m.mems
   pub few_rams : IsCounted m.rams
 
--- the ports have nets of the module alone
+-- the inputs, and the nets of the outputs, are nets of the module
+pub record InputsWithin (m : Module) : Type 0 where
+  pub each : (k n : ℕ) → slice_get (inputs_of m) k ≡ Some n → n < m.nets
+
+pub record OutputsWithin (m : Module) : Type 0 where
+  pub each : (n : ℕ) → HasNet (outputs_of m) n → n < m.nets
+
 pub record HasPorts (m : Module) : Type 0 where
-  pub inputs : (k n : ℕ) → slice_get (inputs_of m) k ≡ Some n → n < m.nets
-  pub outputs : (n : ℕ) → HasNet (outputs_of m) n → n < m.nets
+  pub inputs : InputsWithin m
+  pub outputs : OutputsWithin m

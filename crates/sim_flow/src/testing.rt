@@ -62,14 +62,31 @@ fn bits_below(limit: u32, bits: &[Bit]) -> bool
     bits.iter().all(|bit| is_below(limit, *bit))
 }
 
-/// Whether the ports of a module have nets of the module alone.
+/// Whether the inputs are nets of the module.
+fn inputs_within(alloc: Global, module: &Module) -> Result<bool, Memory>
+    ensures { IfOk result (λ within. within ≡ true → spec.InputsWithin «module».now) }
+{
+    let nets = inputs(alloc, module)?;
+    Ok(nets_below(module.nets, nets.as_slice()))
+}
+
+/// Whether the outputs have nets of the module alone.
+fn outputs_within(alloc: Global, module: &Module) -> Result<bool, Memory>
+    ensures { IfOk result (λ within. within ≡ true → spec.OutputsWithin «module».now) }
+{
+    let bits = outputs(alloc, module)?;
+    Ok(bits_below(module.nets, bits.as_slice()))
+}
+
+/// Whether the ports have nets of the module alone.
 #[tactic(auto, using(crate::proofs::Tested::ports_are))]
 fn has_ports(alloc: Global, module: &Module) -> Result<bool, Memory>
     ensures { IfOk result (λ has. has ≡ true → spec.HasPorts «module».now) }
 {
-    let nets = inputs(alloc, module)?;
-    let bits = outputs(alloc, module)?;
-    Ok(nets_below(module.nets, nets.as_slice()) && bits_below(module.nets, bits.as_slice()))
+    if !inputs_within(alloc, module)? {
+        return Ok(false);
+    }
+    outputs_within(alloc, module)
 }
 
 /// Whether a module can be simulated under a library: its memories are whole and fit, its RAM cells have
