@@ -227,17 +227,22 @@ total_after : (xs ys : List RawCell) → cells_total (xs ++ ys) ≡ cells_total 
 total_after [] ys = omega arith
 total_after (x ∷ xs) ys = let rest = total_after xs ys in omega (arith, rest)
 
+pins_few : (x : Context) (st : Counts) (r : CellRow) (pins : List OpenPin) → count_breaches x.memory st r pins ≡ [] → st.pin_bits + pins_size (has_long_address r) pins ≤ most
+pins_few x st r pins e =
+    let few = limit_breaches most (st.pin_bits + pins_size (has_long_address r) pins) in
+    let rest = row_limits x.memory st.reads st.writes r in
+    limit_kept most (st.pin_bits + pins_size (has_long_address r) pins) (none_left few rest (none_right (limit_breaches 4194304 (st.places + open_count pins)) (few ++ rest) e))
+
 -- one cell more
 found_step : (x : Context) (st : Counts) (c : DocCell) (params : List Attr) (f : Found) → found_faults x st c params f ≡ [] → st.pin_bits ≤ most
     → (st.pin_bits + cells_total (gained (found_gain x st c params f)) ≤ (counted st (found_gain x st c params f)).pin_bits) × ((counted st (found_gain x st c params f)).pin_bits ≤ most)
-unfolding row_gain row_faults pin_faults
+unfolding row_gain row_faults
 found_step x st c params found_as.Unknown e h = absurd cc
 found_step x st c params found_as.Missing e h = absurd cc
 found_step x st c params (found_as.Row r) e h =
-    let counts : count_breaches x.memory st r (row_pins x c r) ≡ [] = none_right _ _ e in
-    let behind : limit_breaches most (st.pin_bits + pins_size (has_long_address r) (row_pins x c r)) ++ row_limits x.memory st.reads st.writes r ≡ [] = none_right (limit_breaches 4194304 (st.places + open_count (row_pins x c r))) _ counts in
-    let few : st.pin_bits + pins_size (has_long_address r) (row_pins x c r) ≤ most = limit_kept most (st.pin_bits + pins_size (has_long_address r) (row_pins x c r)) (none_left _ _ behind) in
-    let weight = row_weight c params r st.places (row_pins x c r) in
+    let pins = row_pins x c r in
+    let few = pins_few x st r pins (none_right (pin_faults x c params r) (count_breaches x.memory st r pins) e) in
+    let weight = row_weight c params r st.places pins in
     (omega (arith, weight), few)
 
 at_none : (i : ℕ) (bs : List Breach) → at i bs ≡ [] → bs ≡ []
