@@ -1,0 +1,5 @@
+mod Filling
+mod Listing
+mod Kept
+mod Widths
+mod Whole

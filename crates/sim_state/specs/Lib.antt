@@ -1,0 +1,4 @@
+pub mod Looks
+pub mod Shows
+pub mod Cells
+pub mod SimStates
