@@ -53,12 +53,7 @@ impl Model for Sim {
 
 impl Sim {
     /// The simulation at the start.
-    pub fn new(
-        alloc: Global,
-        module: &Module,
-        library: &Library,
-        seed: u64,
-    ) -> Result<Sim, Memory>
+    pub fn new(alloc: Global, module: &Module, library: &Library, seed: u64) -> Result<Sim, Memory>
         requires { CanRun library.now «module».now }
         ensures { IfOk result (λ sim. sim ≡ first_view «module».now library.now seed) }
     {

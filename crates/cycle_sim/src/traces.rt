@@ -133,9 +133,7 @@ fn trace_some<R: Threads + Sync>(
         || -> Result<Vec<List<List<bool>>>, Memory>
             requires { IsSync R.row × IsJob library.now «module».now events.now (workers / 2) first low }
             ensures { IfOk result (λ traces. AreShown library.entry.now «module».entry.now events.entry.now first low traces.items) }
-        {
-            trace_some(rt, alloc, workers / 2, module, library, events, first, low)
-        },
+        { trace_some(rt, alloc, workers / 2, module, library, events, first, low) },
         || -> Result<Vec<List<List<bool>>>, Memory>
             requires { IsSync R.row × IsJob library.now «module».now events.now (workers - workers / 2) (first + low) high }
             ensures { IfOk result (λ traces. AreShown library.entry.now «module».entry.now events.entry.now (first + low) high traces.items) }

@@ -15,13 +15,7 @@ use net_core::{Comb, CombKind};
 use ram_step::PickKey;
 
 /// What a logic cell shows at each place. `picks` is room for as many bits. It takes no memory.
-pub fn show_comb(
-    comb: &Comb,
-    values: &[bool],
-    key: &PickKey,
-    picks: &mut [bool],
-    out: &mut [bool],
-)
+pub fn show_comb(comb: &Comb, values: &[bool], key: &PickKey, picks: &mut [bool], out: &mut [bool])
     requires nets { HaveValues (comb_node comb.now).needs values.now }
     requires picks { length picks.old ≡ length comb.now.y }
     requires out { length out.old ≡ length comb.now.y }
