@@ -145,3 +145,8 @@ slot_below m at i j e has c found =
     let w = slot_of m i j has.0 (ap (node_at m) (sym e) ∙ has.1) in
     let P : RamCell → Type 0 = λ y. j < length y.slots in
     subst P (same_Some w.0 c (sym w.2 ∙ found)) (get_below w.0.slots j w.1 w.3)
+
+pub same_read : {X : Type 0} (xs : List X) (i : ℕ) (d e : X) → i < length xs → get_or xs i d ≡ get_or xs i e
+same_read [] i d e h = absurd (omega (arith, h))
+same_read (x ∷ xs) zero d e h = refl
+same_read (x ∷ xs) (suc i) d e h = same_read xs i d e (omega (arith, h))

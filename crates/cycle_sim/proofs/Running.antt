@@ -1,7 +1,7 @@
 -- What is shown event by event from the start on is what a picked run shows.
 use Rattle.std.proofs.Common.{◌≡◌, ℕ, zero, suc, ◌+◌, ◌<◌, ◌≤◌, Bool, false, List, [], ◌∷◌, ◌++◌, map, length, drop, get_or, Some, refl, sym, ap, subst, add-one, drop-cons, append_assoc, ◌∙◌, arith}
 use Rattle.std.specs.Prelude.{slice_get}
-use Rattle.std.proofs.lemmas.Option.{same_Some}
+use Rattle.std.proofs.lemmas.Option.{same_Some, slice_get-get_or}
 use Rattle.lib_core.specs.declared.library.Library.{Library}
 use Rattle.net_core.specs.declared.bits.Bit.{Bit}
 use Rattle.net_core.specs.declared.bits.Event.{Event}
@@ -13,8 +13,8 @@ use Rattle.ram_step.specs.Moments.{valuation}
 use Rattle.picked_run.specs.Settled.{IsSettled}
 use Rattle.picked_run.specs.States.{SimLook, sim_start, sim_stepped}
 use Rattle.picked_run.specs.PickedRuns.{PickedRun, IsShown}
-use Rattle.cycle_sim.specs.Views.{SimView, stepped_view, SettledWith}
-use Rattle.cycle_sim.specs.Traces.{ShowsFrom, ShowsEvent}
+use Rattle.cycle_sim.specs.Views.{SimView, first_view, stepped_view, SettledWith, HasInputs}
+use Rattle.cycle_sim.specs.Traces.{HaveInputs, ShowsFrom, ShowsEvent}
 
 module _ (lib : Library) (m : Module) (seed : ℕ) where
   -- the values and the states, counted from the first event
@@ -161,3 +161,20 @@ follows_all first now events i lines end f =
     let E : List Event → Type 0 = λ l. ShowsFrom first.library first.unit first.seed (first.steps + i) now.state l [] in
     let J : List (List Bool) → Type 0 = λ l. ShowsFrom first.library first.unit first.seed first.steps first.state events l in
     subst J (end_nothing lines) (f.shows [] (subst E (sym (nothing_left events i end)) refl))
+
+pub inputs_there : (events : List Event) (i : ℕ) (e : Event) (first now : Module) → i < length events → e ≡ get_or events i e → now ≡ first → HaveInputs first events → HasInputs now e
+inputs_there events i e first now lt is same all =
+    let P : Module → Type 0 = λ m. HasInputs m e in
+    subst P (sym same) (all i e (slice_get-get_or events i e lt ∙ ap Some (sym is)))
+
+pub below_like : (first now : Module) (n : ℕ) → now ≡ first → n < first.nets → n < now.nets
+below_like first now n same lt =
+    let P : Module → Type 0 = λ m. n < m.nets in
+    subst P (sym same) lt
+
+-- lines that are shown from the view at the start
+pub lines_shown : (lib : Library) (m : Module) (seed : ℕ) (sim : SimView) (events part : List Event) (lines : List (List Bool)) → sim ≡ first_view m lib seed → part ≡ events → ShowsFrom sim.library sim.unit sim.seed sim.steps sim.state part lines → IsShown lib m seed events lines
+lines_shown lib m seed sim events part lines same all shows =
+    let P : SimView → Type 0 = λ s. ShowsFrom s.library s.unit s.seed s.steps s.state part lines in
+    let Q : List Event → Type 0 = λ l. ShowsFrom lib m seed 0 (sim_start lib m seed) l lines in
+    is_shown lib m seed events lines (subst Q all (subst P same shows))

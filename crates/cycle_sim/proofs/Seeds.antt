@@ -1,6 +1,6 @@
 -- The traces of seeds that follow each other.
 use Rattle.std.proofs.Common.{◌≡◌, ℕ, zero, suc, ◌+◌, ◌-◌, ◌/◌, ◌<◌, ◌≤◌, ◌^◌, Bool, ◌⊎◌, inl, inr, List, [], ◌∷◌, ◌++◌, length, Some, refl, sym, ap, subst, ◌∙◌, arith, length-append}
-use Rattle.std.specs.Prelude.{slice_get}
+use Rattle.std.specs.Prelude.{slice_get, Result, Ok, IfOk}
 use Rattle.std.proofs.lemmas.Option.{same_Some}
 use Rattle.lib_core.specs.declared.library.Library.{Library}
 use Rattle.net_core.specs.declared.bits.Event.{Event}
@@ -59,3 +59,9 @@ part_job lib m events workers first count some start many job is within = record
   inputs = job.inputs;
   seeds = (let below = job.seeds in omega (arith, below, within));
 }
+
+pub ok_at : {T E : Type 0} (r : Result T E) (x : T) (P : T → Type 0) → r ≡ Ok x → IfOk r P → P x
+ok_at r x P e h = subst (λ z. IfOk z P) e h
+
+pub two_halves : (lib : Library) (m : Module) (events : List Event) (first count : ℕ) (front back all : List (List (List Bool))) → AreShown lib m events first (count / 2) front → AreShown lib m events (first + count / 2) (count - count / 2) back → all ≡ front ++ back → AreShown lib m events first count all
+two_halves lib m events first count front back all a b e = halves_shown lib m events first (count / 2) count front back all (omega arith) a b e

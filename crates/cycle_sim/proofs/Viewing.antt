@@ -1,11 +1,14 @@
 -- What the parts of a simulation say of what contracts see of it.
-use Rattle.std.proofs.Common.{◌≡◌, ℕ, ◌+◌, Bool, true, false, List, length, Option, Some, None, refl, sym, ap, subst, ◌∙◌}
-use Rattle.std.specs.Prelude.{slice_get}
+use Rattle.std.proofs.Common.{◌≡◌, ℕ, ◌+◌, ◌<◌, Bool, true, false, List, length, get_or, Option, Some, None, refl, sym, ap, subst, ◌∙◌}
+use Rattle.std.specs.Prelude.{slice_get, is_some, IsSome}
 use Rattle.std.proofs.lemmas.Option.{same_Some}
 use Rattle.net_core.specs.declared.bits.Event.{Event}
 use Rattle.net_core.specs.Ports.{inputs_of}
+use Rattle.net_core.specs.Values.{bit_at}
 use Rattle.ram_step.specs.Moments.{valuation}
 use Rattle.picked_run.specs.Settled.{IsSettled}
+use Rattle.sim_settle.proofs.Writing.{bit_at_is}
+use Rattle.cycle_sim.proofs.Placed.{same_read}
 use Rattle.cycle_sim.specs.Views.{SimView, settled_values, with_values, stepped_view, HasSettled, SettledWith, ShowsInputs, AreInputsOf}
 
 pub values_are : (settled : Bool) (items values : List Bool) → settled_values settled items ≡ Some values → items ≡ values
@@ -23,3 +26,15 @@ stepped_like old now next e values same h = h ∙ ap (λ z. stepped_view z e val
 
 pub shows_inputs : (s : SimView) (e : Event) → HasSettled s e → ShowsInputs s e
 shows_inputs s e (values, is, settled) = (values, is, λ k n b hk hb. settled.inputs k n b hk hb)
+
+pub output_is : (items values : List Bool) (i : ℕ) (x : Bool) → i < length items → x ≡ get_or items i x → items ≡ values → x ≡ bit_at values i
+output_is items values i x lt is same = is ∙ same_read items i x false lt ∙ sym (bit_at_is items i) ∙ ap (λ l. bit_at l i) same
+
+pub nets_like : (old now : SimView) → now ≡ with_values old now.values → now.unit.nets ≡ old.unit.nets
+nets_like old now same = ap (λ (s : SimView). s.unit.nets) same
+
+pub steps_like : (old now : SimView) → now ≡ with_values old now.values → now.steps ≡ old.steps
+steps_like old now same = ap (λ (s : SimView). s.steps) same
+
+pub is_there : (o : Option (List Bool)) (values : List Bool) → o ≡ Some values → IsSome o
+is_there o values e = ap is_some e

@@ -127,6 +127,7 @@ fn trace_some<R: Threads + Sync>(
         return trace_each(alloc, module, library, events, first, count);
     }
     let low = count / 2;
+    let high = count - low;
     let (left, right) = join(
         rt,
         || -> Result<Vec<List<List<bool>>>, Memory>
@@ -134,8 +135,8 @@ fn trace_some<R: Threads + Sync>(
             ensures { IfOk result (λ traces. AreShown library.entry.now «module».entry.now events.entry.now first low traces.items) }
         { trace_some(rt, alloc, workers / 2, module, library, events, first, low) },
         || -> Result<Vec<List<List<bool>>>, Memory>
-            requires { IsSync R.row × IsJob library.now «module».now events.now (workers - workers / 2) (first + low) (count - low) }
-            ensures { IfOk result (λ traces. AreShown library.entry.now «module».entry.now events.entry.now (first + low) (count - low) traces.items) }
+            requires { IsSync R.row × IsJob library.now «module».now events.now (workers - workers / 2) (first + low) high }
+            ensures { IfOk result (λ traces. AreShown library.entry.now «module».entry.now events.entry.now (first + low) high traces.items) }
         {
             trace_some(
                 rt,
@@ -145,11 +146,14 @@ fn trace_some<R: Threads + Sync>(
                 library,
                 events,
                 first + low,
-                count - low,
+                high,
             )
         },
     );
-    joined(left?, right?)
+    let front = left?;
+    let back = right?;
+    let all = joined(front, back)?;
+    Ok(all)
 }
 
 /// The traces of seeds that follow each other.

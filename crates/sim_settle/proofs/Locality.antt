@@ -1,5 +1,5 @@
 -- What a node shows depends on the nets that it needs alone.
-use Rattle.std.proofs.Common.{◌≡◌, ℕ, ◌+◌, ◌*◌, ◌/◌, ◌^◌, Bool, true, false, cond, ◌&&◌, List, [], ◌∷◌, ◌++◌, Option, Some, None, refl, sym, ap, ◌∙◌, subst}
+use Rattle.std.proofs.Common.{◌≡◌, ℕ, ◌/◌, ◌^◌, Bool, true, false, cond, ◌&&◌, List, [], ◌∷◌, ◌++◌, Option, Some, None, refl, sym, ap, ◌∙◌, subst}
 use Rattle.std.specs.Prelude.{slice_get, option_map, option_and_then}
 use Rattle.std.proofs.lemmas.Option.{same_Some}
 use Rattle.lib_core.specs.declared.library.Library.{Library}
@@ -13,11 +13,11 @@ use Rattle.net_core.specs.declared.mems.Mem.{Mem}
 use Rattle.net_core.specs.declared.mems.RdPort.{RdPort}
 use Rattle.net_core.specs.declared.rams.RamCell.{RamCell}
 use Rattle.net_core.specs.declared.modules.Module.{Module}
-use Rattle.net_core.specs.Values.{Valuation, value_of, number_of, bit_at, tri_of, same_bool}
+use Rattle.net_core.specs.Values.{Valuation, number_of, bit_at, tri_of, same_bool}
 use Rattle.net_core.specs.Logic.{comb_shows}
 use Rattle.net_core.specs.Cells.{has_arst}
 use Rattle.net_core.specs.Memory.{frame_of, base_of, read_bit, read_shows}
-use Rattle.net_core.specs.Ram.{Slot, slots_of, word_of, slot_in_arst}
+use Rattle.net_core.specs.Ram.{Slot, word_of, slot_in_arst}
 use Rattle.net_core.specs.Nodes.{Node, comb_node, reg_node, read_needs, read_node, slot_node, HasNet}
 use Rattle.net_core.specs.Runs.{ReadsAgree}
 use Rattle.net_core.proofs.Basics.{has_left, has_right, value_same, values_same}

@@ -5,9 +5,9 @@ use Rattle.std.proofs.lemmas.Bool.{cases_eq}
 use Rattle.std.proofs.lemmas.Option.{same_Some, slice_get-get_or}
 use Rattle.net_core.specs.declared.modules.Module.{Module}
 use Rattle.net_core.specs.Values.{bit_at}
-use Rattle.net_core.specs.Nodes.{Node, Drives, NetsWithin, IsNodeOrder, nodes_of}
+use Rattle.net_core.specs.Nodes.{Node, NetsWithin, IsNodeOrder, nodes_of}
 use Rattle.net_core.specs.Ports.{inputs_of}
-use Rattle.net_core.proofs.Basics.{get_left, get_right, get_joined, get_below}
+use Rattle.net_core.proofs.Basics.{get_left, get_right, get_joined}
 use Rattle.picked_run.specs.Settled.{IsFree}
 use Rattle.sim_settle.specs.declared.places.NodePlace.{NodePlace}
 use Rattle.sim_settle.specs.declared.places.NodePlace.TheVariants as place

@@ -1,9 +1,8 @@
 -- Values that begin as they have to are settled once all places are worked off in an order.
-use Rattle.std.proofs.Common.{◌≡◌, ℕ, ◌<◌, Bool, List, Option, Some, refl, sym, ap, ◌∙◌, subst}
+use Rattle.std.proofs.Common.{◌≡◌, ℕ, List, Some, sym, ap, ◌∙◌}
 use Rattle.std.specs.Prelude.{slice_get, option_map, option_and_then}
 use Rattle.std.proofs.lemmas.Option.{same_Some}
 use Rattle.lib_core.specs.declared.library.Library.{Library}
-use Rattle.lib_core.specs.declared.library.Variant.{Variant}
 use Rattle.net_core.specs.declared.bits.Event.{Event}
 use Rattle.net_core.specs.declared.mems.Mem.{Mem}
 use Rattle.net_core.specs.declared.rams.RamCell.{RamCell}
@@ -12,8 +11,8 @@ use Rattle.net_core.specs.Values.{Valuation}
 use Rattle.net_core.specs.Drivers.{HasOneDriver}
 use Rattle.net_core.specs.Nodes.{Node, comb_node, reg_node, read_node, slot_node, Drives}
 use Rattle.net_core.specs.Ports.{inputs_of}
-use Rattle.net_core.specs.Ram.{Slot, slots_of}
-use Rattle.net_core.specs.Runs.{variant_of, ReadsAgree}
+use Rattle.net_core.specs.Ram.{slots_of}
+use Rattle.net_core.specs.Runs.{ReadsAgree}
 use Rattle.net_core.proofs.Settle.{pins_at}
 use Rattle.picked_run.specs.Settled.{IsSettled, IsFree}
 use Rattle.picked_run.specs.States.{SimLook}

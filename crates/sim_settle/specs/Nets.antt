@@ -1,6 +1,6 @@
 -- Bits that are written to nets.
 use Rattle.std.specs.Prelude.{◌≡◌, ℕ, ◌<◌, Bool, List, Some, slice_get}
-use Rattle.net_core.specs.Values.{Valuation, bit_at}
+use Rattle.net_core.specs.Values.{Valuation}
 
 -- the net is among these
 abbrev pub IsAmong : List ℕ → ℕ → Type 0

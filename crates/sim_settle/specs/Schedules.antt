@@ -1,5 +1,5 @@
 -- What is found once of a module before it is simulated.
-use Rattle.std.specs.Prelude.{◌≡◌, ℕ, ◌<◌, ◌≤◌, List, length, Some, slice_get}
+use Rattle.std.specs.Prelude.{◌≡◌, ℕ, ◌<◌, ◌≤◌, length, Some}
 use Rattle.net_core.specs.declared.modules.Module.{Module}
 use Rattle.net_core.specs.Nodes.{Node}
 use Rattle.net_core.specs.Ports.{inputs_of}

@@ -2,7 +2,7 @@ use Rattle.std.proofs.Common.{◌≡◌, ◌≤◌, length, slice_index_or, ◌�
 use Rattle.ram_step.specs.Moments.{valuation}
 use Rattle.sim_settle.specs.declared.places.NodePlace.TheVariants as place
 use Rattle.sim_settle.proofs.Marking.{place_read}
-use Rattle.cycle_sim.proofs.Placed.{work_more, work_ends}
+use Rattle.cycle_sim.proofs.Placed.{work_more, work_ends, same_read}
 use Rattle.cycle_sim.proofs.settling.work_all.Goals as goal
 
 pub work_place-requires-clause-node : goal.work_place-requires-clause-node
@@ -20,7 +20,7 @@ loop-at-preserved c =
       omega (arith, inv.0),
       omega (arith, inv.1),
       omega (arith, inv.2),
-      work_more c.args.«module».now c.args.seed c.args.number c.args.state.now c.args.work.now c.loop-at.at-index (slice_index_or c.args.work.now c.loop-at.at-index (place.Comb 0)) _ _ _ c.loop-at-test.true refl c.work_place.ensures inv.3,
+      work_more c.args.«module».now c.args.seed c.args.number c.args.state.now c.args.work.now c.loop-at.at-index (slice_index_or c.args.work.now c.loop-at.at-index (place.Comb 0)) _ _ _ c.loop-at-test.true (same_read c.args.work.now c.loop-at.at-index (place.Comb 0) _ c.loop-at-test.true) c.work_place.ensures inv.3,
     )
 
 pub returns : goal.returns

@@ -1,4 +1,4 @@
-use Rattle.std.proofs.Common.{length, ◌<◌, arith}
+use Rattle.std.proofs.Common.{arith}
 use Rattle.lib_core.specs.Picks.{picked}
 use Rattle.sim_settle.proofs.Writing.{one_more}
 use Rattle.sim_settle.proofs.combs.pick_bits.Goals as goal

@@ -1,4 +1,4 @@
-use Rattle.std.proofs.Common.{◌≡◌, ◌<◌, length, ◌∙◌, arith}
+use Rattle.std.proofs.Common.{◌<◌, length, ◌∙◌, arith}
 use Rattle.net_core.specs.Values.{values_of, bit_at}
 use Rattle.ram_step.specs.Moments.{valuation}
 use Rattle.sim_settle.proofs.Showing.{shown_bit}

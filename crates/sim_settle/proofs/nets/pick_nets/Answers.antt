@@ -1,8 +1,8 @@
-use Rattle.std.proofs.Common.{◌≡◌, ◌<◌, length, slice_index_or, refl, sym, ap, subst, ◌∙◌, arith}
+use Rattle.std.proofs.Common.{◌<◌, length, slice_index_or, ◌∙◌}
 use Rattle.std.proofs.lemmas.List.{length-set}
 use Rattle.lib_core.specs.Picks.{picked}
 use Rattle.ram_step.specs.Moments.{valuation}
-use Rattle.sim_settle.proofs.Writing.{Filled, filled_more, all_filled, filled_up, read_at, within_values}
+use Rattle.sim_settle.proofs.Writing.{filled_more, all_filled, filled_up, read_at, within_values}
 use Rattle.sim_settle.proofs.nets.pick_nets.Goals as goal
 
 pub loop-net-preserved : goal.loop-net-preserved

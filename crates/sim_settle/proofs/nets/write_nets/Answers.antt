@@ -1,7 +1,7 @@
-use Rattle.std.proofs.Common.{◌≡◌, ◌<◌, length, slice_index_or, false, refl, sym, ap, subst, ◌∙◌, arith}
+use Rattle.std.proofs.Common.{◌<◌, length, slice_index_or, false, sym, ◌∙◌}
 use Rattle.std.proofs.lemmas.List.{length-set}
 use Rattle.ram_step.specs.Moments.{valuation}
-use Rattle.sim_settle.proofs.Writing.{Wrote, bit_at_is, wrote_more, all_wrote, wrote_up, read_at, within_values}
+use Rattle.sim_settle.proofs.Writing.{bit_at_is, wrote_more, all_wrote, wrote_up, read_at, within_values}
 use Rattle.sim_settle.proofs.nets.write_nets.Goals as goal
 
 pub loop-place-preserved : goal.loop-place-preserved

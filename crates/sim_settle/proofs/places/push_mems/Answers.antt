@@ -1,4 +1,4 @@
-use Rattle.std.proofs.Common.{◌≡◌, ◌++◌, length, ap, ◌∙◌}
+use Rattle.std.proofs.Common.{◌++◌, length, ap, ◌∙◌}
 use Rattle.sim_settle.specs.declared.places.NodePlace.TheVariants as place
 use Rattle.sim_settle.specs.Places.{each_place, read_places}
 use Rattle.sim_settle.proofs.Pushing.{item_get, all_more}

@@ -1,4 +1,4 @@
-use Rattle.std.proofs.Common.{◌≡◌, ◌<◌, length, false, ap, ◌∙◌, arith}
+use Rattle.std.proofs.Common.{◌≡◌, length, false, ap, ◌∙◌, arith}
 use Rattle.net_core.specs.Values.{bit_at}
 use Rattle.sim_settle.proofs.Marking.{front, none_set, none_long}
 use Rattle.sim_settle.proofs.schedules.free_nets.Goals as goal

@@ -1,4 +1,4 @@
-use Rattle.std.proofs.Common.{◌≡◌, ◌<◌, length, slice_index_or, true, refl, ◌∙◌, arith}
+use Rattle.std.proofs.Common.{◌<◌, length, slice_index_or, true, refl, ◌∙◌}
 use Rattle.std.proofs.lemmas.List.{length-set}
 use Rattle.net_core.specs.Values.{bit_at}
 use Rattle.sim_settle.proofs.Writing.{filled_more, read_at, within_values}

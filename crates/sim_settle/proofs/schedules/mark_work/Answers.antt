@@ -1,4 +1,4 @@
-use Rattle.std.proofs.Common.{◌≡◌, ◌<◌, length, slice_index_or, ◌∙◌, arith}
+use Rattle.std.proofs.Common.{slice_index_or, ◌∙◌, arith}
 use Rattle.sim_settle.specs.declared.places.NodePlace.TheVariants as place
 use Rattle.sim_settle.proofs.Marking.{place_read, nets_below, apart_from}
 use Rattle.sim_settle.proofs.schedules.mark_work.Goals as goal

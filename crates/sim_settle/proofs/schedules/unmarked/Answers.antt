@@ -1,4 +1,4 @@
-use Rattle.std.proofs.Common.{◌≡◌, slice_index_or, false, sym}
+use Rattle.std.proofs.Common.{slice_index_or, false}
 use Rattle.sim_settle.proofs.Writing.{bit_at_is}
 use Rattle.sim_settle.proofs.Marking.{unmarked_more}
 use Rattle.sim_settle.proofs.schedules.unmarked.Goals as goal

@@ -1,4 +1,4 @@
-use Rattle.std.proofs.Common.{◌≡◌, ◌∙◌}
+use Rattle.std.proofs.Common.{◌∙◌}
 use Rattle.sim_settle.proofs.Marking.{taken_within, work_is}
 use Rattle.sim_settle.proofs.schedules.work.Goals as goal
 
