@@ -10,8 +10,8 @@ use lib_read::LibCode;
 use mem_collect::CollectCode;
 use net_wires::BuildCode;
 use rtlil_text::TextCode;
-use stim_text::StimCode;
 use std::alloc::Global;
+use stim_text::StimCode;
 
 /// The number of a text's fault.
 fn text_fault(code: TextCode) -> u64

@@ -38,9 +38,10 @@ one_run lib m seed events out is =
 
 are_runs : (lib : Library) (m : Module) (events : List Event) (first : ℕ) (outs : List (List (List Bool))) → ((k : ℕ) (out : List (List Bool)) → slice_get outs k ≡ Some out → IsShown lib m (first + k) events out) → AreRuns (length (outputs_of m)) (length events) outs
 are_runs lib m events first [] each = tt
-are_runs lib m events first (out ∷ outs) each =
-    (one_run lib m (first + 0) events out (each 0 out refl),
-    are_runs lib m events (first + 1) outs (λ k o at. subst (λ n. IsShown lib m n events o) (omega arith) (each (suc k) o at)))
+are_runs lib m events first (out ∷ outs) each = (
+  one_run lib m (first + 0) events out (each 0 out refl),
+  are_runs lib m events (first + 1) outs (λ k o at. subst (λ n. IsShown lib m n events o) (omega arith) (each (suc k) o at)),
+)
 
 from_zero : (lib : Library) (m : Module) (events : List Event) (seeds : ℕ) (outs : List (List (List Bool))) → AreShown lib m events 0 seeds outs → AreRuns (length (outputs_of m)) (length events) outs
 from_zero lib m events seeds outs are = are_runs lib m events 0 outs are.each

@@ -13,7 +13,9 @@ const MOST: usize = 4_294_967_295;
 pub fn has_counts(module: &Module) -> bool
     ensures { result ≡ true → HasCounts «module».now }
 {
-    module.mems.as_slice().len() <= MOST && module.rams.as_slice().len() <= MOST && nodes_are_few(module)
+    module.mems.as_slice().len() <= MOST
+        && module.rams.as_slice().len() <= MOST
+        && nodes_are_few(module)
 }
 
 fn nodes_are_few(module: &Module) -> bool

@@ -96,7 +96,10 @@ fn has_ports(alloc: Global, module: &Module) -> Result<bool, Memory>
 pub fn can_run(alloc: Global, library: &Library, module: &Module) -> Result<bool, Memory>
     ensures { IfOk result (λ can. can ≡ true → CanRun library.now «module».now) }
 {
-    if !library_within(library) || !rams_run(library, module.rams.as_slice()) || !has_counts(module) {
+    if !library_within(library)
+        || !rams_run(library, module.rams.as_slice())
+        || !has_counts(module)
+    {
         return Ok(false);
     }
     if !has_ports(alloc, module)? {

@@ -5,5 +5,4 @@ ghost use Rattle.stim_text.specs.Whole.{EventsAreWhole};
 /// are at most 65,536.
 pub fn events_are_whole()
     ensures { EventsAreWhole }
-{
-}
+{}

@@ -36,10 +36,7 @@ fn sim_desk(
     files.push(file(alloc, b"n", netlist)?)?;
     files.push(file(alloc, b"l", library)?)?;
     files.push(file(alloc, b"s", stimulus)?)?;
-    Ok(MemDesk::new(
-        List::from_vec(files),
-        List::from_vec(Vec::new(alloc)),
-    ))
+    Ok(MemDesk::new(List::from_vec(files), List::from_vec(Vec::new(alloc))))
 }
 
 fn form_desk(alloc: Global, stimulus: &[u8]) -> Result<MemDesk, AllocError> {
@@ -56,10 +53,7 @@ fn mapped_desk(alloc: Global, form: Form<'_>) -> Result<MemDesk, AllocError> {
     files.push(file(alloc, b"d", design.as_bytes())?)?;
     files.push(file(alloc, b"l", library.as_bytes())?)?;
     files.push(file(alloc, b"s", WRITTEN.as_bytes())?)?;
-    Ok(MemDesk::new(
-        List::from_vec(files),
-        List::from_vec(Vec::new(alloc)),
-    ))
+    Ok(MemDesk::new(List::from_vec(files), List::from_vec(Vec::new(alloc))))
 }
 
 /// The trace of the memory for a seed.
@@ -124,10 +118,19 @@ fn no_module(rt: HostRuntime) -> Result<(), Fail> {
 #[test]
 fn words_of_sim(rt: HostRuntime) -> Result<(), Fail> {
     let alloc = rt.alloc();
-    for line in ["sim n l s t 0", "sim n l s t 17", "sim n l s t x", "sim n l s t"] {
+    for line in [
+        "sim n l s t 0",
+        "sim n l s t 17",
+        "sim n l s t x",
+        "sim n l s t",
+    ] {
         let words = words(alloc, line)?;
         let mut desk = form_desk(alloc, BEYOND.as_bytes())?;
-        assert_eq!(rt; run(&rt, alloc, words.as_slice(), &mut desk), Status::Usage, "at {line}");
+        assert_eq!(rt;
+            run(&rt, alloc, words.as_slice(), &mut desk),
+            Status::Usage,
+            "at {line}"
+        );
         assert!(rt; desk.file("t").is_none());
     }
     Ok(())
@@ -220,6 +223,12 @@ fn top_and_kept_cells(rt: HostRuntime) -> Result<(), Fail> {
     let stimulus = b"set \\x 1'1\npin $k \\Y 2'10\ngo\n";
     let mut desk = sim_desk(alloc, SECOND_IS_TOP.as_bytes(), b"", stimulus)?;
     assert_eq!(rt; run(&rt, alloc, asked.as_slice(), &mut desk), Status::Ok);
-    assert!(rt; has(&desk, "t", b"seed 0\n0 \\q 1'1\n0 \\p 2'10\n0 $k \\A 2'11\n"));
+    assert!(rt;
+        has(
+            &desk,
+            "t",
+            b"seed 0\n0 \\q 1'1\n0 \\p 2'10\n0 $k \\A 2'11\n"
+        )
+    );
     Ok(())
 }
