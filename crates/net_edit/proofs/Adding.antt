@@ -1,10 +1,9 @@
 -- Cells and nets that are added.
-use Rattle.std.proofs.Common.{◌≡◌, ℕ, zero, suc, ◌+◌, ◌<◌, ◌≤◌, ◌⊎◌, inl, inr, Bool, true, false, cond, List, [], ◌∷◌, ◌++◌, map, length, Option, Some, None, refl, sym, ap, ◌∙◌, subst, arith}
+use Rattle.std.proofs.Common.{◌≡◌, ℕ, ◌+◌, ◌<◌, ◌⊎◌, inl, inr, Bool, true, false, cond, List, [], ◌∷◌, ◌++◌, map, length, Option, Some, None, refl, sym, ap, ◌∙◌, subst, arith}
 use Rattle.std.specs.Prelude.{slice_get}
 use Rattle.std.specs.List.{flat_map}
-use Rattle.lib_core.specs.declared.library.Library.{Library}
 use Rattle.net_core.specs.declared.bits.Clock.{Clock}
-use Rattle.net_core.specs.declared.bits.Clock.TheVariants.{Root, Never}
+use Rattle.net_core.specs.declared.bits.Clock.TheVariants.{Root}
 use Rattle.net_core.specs.declared.cells.Comb.{Comb}
 use Rattle.net_core.specs.declared.cells.Reg.{Reg}
 use Rattle.net_core.specs.declared.mems.Mem.{Mem}
@@ -12,19 +11,16 @@ use Rattle.net_core.specs.declared.mems.RdPort.{RdPort}
 use Rattle.net_core.specs.declared.rams.RamCell.{RamCell}
 use Rattle.net_core.specs.declared.rams.SlotUse.{SlotUse}
 use Rattle.net_core.specs.declared.modules.Module.{Module}
-use Rattle.net_core.specs.Values.{Wave, Happening}
-use Rattle.net_core.specs.Drivers.{Driver, Free, Input, CombOut, RegOut, ReadOut, SlotOut, HasOneDriver}
-use Rattle.net_core.specs.Nodes.{Node, comb_node, reg_node, read_node, slot_node, nodes_of, HasNet, Drives, Rises, Ordered, NetsWithin}
-use Rattle.net_core.specs.Ports.{Interface, inputs_of, clocks_of, mem_clocks, ram_clocks, IsClockRoot}
-use Rattle.net_core.specs.Runs.{Run, SameFrame}
-use Rattle.net_core.specs.Simulation.{Simulates}
+use Rattle.net_core.specs.Drivers.{Driver, Input, CombOut, RegOut, ReadOut, SlotOut, HasOneDriver}
+use Rattle.net_core.specs.Nodes.{Node, comb_node, reg_node, read_node, slot_node, nodes_of, HasNet, Drives, Rises, Ordered}
+use Rattle.net_core.specs.Ports.{inputs_of, clocks_of, mem_clocks, ram_clocks, IsClockRoot}
 use Rattle.net_core.specs.Valid.{AreApart}
 use Rattle.net_core.proofs.Basics.{get_left}
 use Rattle.net_core.proofs.Ordering.{comb_place, reg_place, read_place, slot_place, each_node}
 use Rattle.net_core.proofs.Searching.{get_pushed}
 use Rattle.net_edit.specs.Edits.{with_nets, with_comb, with_reg}
 use Rattle.net_edit.specs.Ranks.{height}
-use Rattle.net_edit.specs.Laws.{IsUndriven, IsNodeWithin, IsCut, HasRanks, SameRanks, CutHasRanks, AddedCombIsOrdered, AddedRegIsOrdered, IsKnownClock, AddedNetsSimulate, AddedCombSimulates, AddedRegSimulates, AddedCombHasOneDriver, AddedRegHasOneDriver, AddedCombIsWithin, AddedRegIsWithin}
+use Rattle.net_edit.specs.Laws.{IsUndriven, IsCut, HasRanks, CutHasRanks, AddedCombIsOrdered, AddedRegIsOrdered, IsKnownClock, AddedNetsSimulate, AddedCombSimulates, AddedRegSimulates, AddedCombHasOneDriver, AddedRegHasOneDriver, AddedCombIsWithin, AddedRegIsWithin}
 use Rattle.net_edit.proofs.Heights.{height_at}
 use Rattle.net_edit.proofs.Lists.{Has, has_left, has_right, has_either, map_has, has_map, pushed_has}
 use Rattle.net_edit.proofs.Places.{place_of, place_found, place_missing}

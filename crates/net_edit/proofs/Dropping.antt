@@ -1,8 +1,6 @@
 -- A module without a cell, and with memories in the place of one.
-use Rattle.std.proofs.Common.{◌≡◌, ℕ, zero, suc, ◌+◌, ◌*◌, ◌<◌, ◌⊎◌, inl, inr, List, [], ◌∷◌, ◌++◌, take, drop, Some, refl}
-use Rattle.std.specs.Prelude.{slice_get}
+use Rattle.std.proofs.Common.{ℕ, zero, suc, ◌+◌, ◌*◌, ◌<◌, ◌⊎◌, inl, inr, List, [], ◌∷◌, ◌++◌, take, drop, refl}
 use Rattle.std.proofs.Math.Nat.{mul-lt-mul_of_pos_left}
-use Rattle.net_core.specs.Nodes.{Rises}
 use Rattle.net_edit.specs.Edits.{spliced}
 use Rattle.net_edit.specs.Drops.{DroppedCombIsOrdered, DroppedRegIsOrdered, SplicedIsOrdered, StretchedIsOrdered}
 use Rattle.net_edit.proofs.Lists.{Has, has_either, removed}

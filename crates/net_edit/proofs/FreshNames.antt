@@ -1,6 +1,6 @@
 -- The names of new cells are free, and identifiers.
-use Rattle.std.proofs.Common.{◌≡◌, ℕ, zero, suc, ◌+◌, ◌≤◌, ◌<◌, ◌^◌, ◌%◌, ◌⊎◌, inl, inr, Bool, true, false, not, ◌&&◌, ◌||◌, List, [], ◌∷◌, ◌++◌, map, replicate, refl, sym, ap, subst, ◌∙◌, append_assoc, arith}
-use Rattle.std.specs.Prelude.{codes, Some, slice_get}
+use Rattle.std.proofs.Common.{◌≡◌, ℕ, zero, suc, ◌+◌, ◌<◌, ◌^◌, ◌%◌, ◌⊎◌, inl, inr, Bool, true, false, not, ◌&&◌, List, [], ◌∷◌, ◌++◌, map, replicate, refl, sym, ap, subst, ◌∙◌, append_assoc, arith}
+use Rattle.std.specs.Prelude.{codes}
 use Rattle.std.specs.List.{list_all, remove}
 use Rattle.std.specs.Fmt.{decimal}
 use Rattle.std.proofs.lemmas.Bool.Decides.{nat_tests}
@@ -12,9 +12,9 @@ use Rattle.net_core.specs.declared.cells.Carried.{Carried}
 use Rattle.net_core.specs.declared.rams.RamCell.{RamCell}
 use Rattle.net_core.specs.declared.modules.MemPart.{MemPart}
 use Rattle.net_core.specs.declared.modules.Module.{Module}
-use Rattle.net_core.specs.Valid.{is_white, is_identifier, IsName, cell_names}
+use Rattle.net_core.specs.Valid.{is_white, IsName, cell_names}
 use Rattle.net_core.proofs.Basics.{both}
-use Rattle.net_edit.specs.Names.{marked, numbered, AreFree, IsFront}
+use Rattle.net_edit.specs.Names.{numbered, AreFree, IsFront}
 use Rattle.net_edit.specs.Edits.{IsFresh, with_comb, with_reg, without_comb, without_reg}
 use Rattle.net_edit.proofs.Lists.{Has, has_left, has_right, has_either, map_has, has_map, pushed_has, removed_has}
 

@@ -1,11 +1,10 @@
 -- Ranks of bits.
-use Rattle.std.proofs.Common.{◌≡◌, ℕ, zero, suc, ◌+◌, ◌<◌, ◌≤◌, max, List, [], ◌∷◌, ◌++◌, Some, refl, sym, ap, ◌∙◌, arith}
-use Rattle.std.specs.Prelude.{slice_get}
+use Rattle.std.proofs.Common.{◌≡◌, ℕ, zero, suc, ◌<◌, ◌≤◌, max, List, [], ◌∷◌, ◌++◌, Some, refl, sym, ap, arith}
 use Rattle.std.proofs.lemmas.Option.{same_Some}
 use Rattle.net_core.specs.declared.bits.Bit.{Bit}
 use Rattle.net_core.specs.declared.bits.Bit.TheVariants.{Zero, One, Net}
 use Rattle.net_core.specs.Nodes.{HasNet}
-use Rattle.net_edit.specs.Ranks.{bit_height, height, BitsBelow}
+use Rattle.net_edit.specs.Ranks.{bit_height, height}
 
 pub height_at : (rank : ℕ → ℕ) (bits : List Bit) (n : ℕ) → HasNet bits n → rank n < height rank bits
 height_at rank [] n (k, h) = cc

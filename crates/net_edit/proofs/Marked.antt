@@ -1,5 +1,5 @@
 -- The marks of names: no name of the module begins so.
-use Rattle.std.proofs.Common.{◌≡◌, ℕ, zero, suc, ◌+◌, ◌≤◌, ◌<◌, ◌⊎◌, inl, inr, max, Bool, true, false, ◌&&◌, cond, nat_eq, List, [], ◌∷◌, ◌++◌, map, length, take, drop, replicate, refl, sym, ap, subst, ◌∙◌, append_assoc, add-one, arith}
+use Rattle.std.proofs.Common.{◌≡◌, ℕ, zero, suc, ◌+◌, ◌≤◌, ◌<◌, Bool, true, false, ◌&&◌, cond, nat_eq, List, [], ◌∷◌, ◌++◌, map, length, take, drop, replicate, refl, sym, ap, subst, ◌∙◌, append_assoc, add-one, arith}
 use Rattle.std.specs.Prelude.{codes, fold, Some, slice_get}
 use Rattle.std.specs.List.{starts_with}
 use Rattle.std.specs.Cmp.Lexicographic.{pointwise}
@@ -14,7 +14,7 @@ use Rattle.net_core.specs.declared.modules.Module.{Module}
 use Rattle.net_core.proofs.Basics.{and_left, and_right, both}
 use Rattle.net_core.specs.declared.modules.MemPart.{MemPart}
 use Rattle.net_core.specs.Valid.{cell_names}
-use Rattle.net_edit.specs.Names.{underscores, marks_of, more_marks, most_marks, marked, numbered, AreFree, IsFront}
+use Rattle.net_edit.specs.Names.{underscores, marks_of, more_marks, most_marks, marked, AreFree, IsFront}
 
 fold_append : {A B : Type 0} (f : B → A → B) (b : B) (xs ys : List A) → fold f b (xs ++ ys) ≡ fold f (fold f b xs) ys
 fold_append f b [] ys = refl

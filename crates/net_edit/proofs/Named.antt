@@ -1,11 +1,11 @@
 -- What a call that adds a cell gives.
-use Rattle.std.proofs.Common.{◌≡◌, ℕ, ◌<◌, ◌^◌, List, [], ◌∷◌, ◌++◌, refl, sym, ap, ◌∙◌, subst}
+use Rattle.std.proofs.Common.{◌≡◌, ℕ, ◌<◌, ◌^◌, List, [], ◌∷◌, ◌++◌, subst}
 use Rattle.net_core.specs.declared.bits.Bit.{Bit}
 use Rattle.net_core.specs.declared.cells.Comb.{Comb}
 use Rattle.net_core.specs.declared.cells.Reg.{Reg}
 use Rattle.net_core.specs.declared.modules.Module.{Module}
 use Rattle.net_core.specs.Valid.{cell_names}
-use Rattle.net_edit.specs.Edits.{Editing, AddsComb, AddsReg, with_comb, with_reg}
+use Rattle.net_edit.specs.Edits.{Editing, AddsComb, AddsReg}
 use Rattle.net_edit.specs.Names.{numbered, AreFree, IsFront}
 use Rattle.net_edit.proofs.FreshNames.{fresh_is}
 

@@ -1,5 +1,5 @@
 -- A module whose readers read other bits keeps orders, drivers and numbers.
-use Rattle.std.proofs.Common.{◌≡◌, ◌≢◌, ℕ, zero, suc, ◌+◌, ◌<◌, ◌≤◌, ◌⊎◌, inl, inr, Bool, true, false, cond, List, [], ◌∷◌, ◌++◌, map, length, Option, Some, None, refl, sym, ap, ◌∙◌, subst, arith}
+use Rattle.std.proofs.Common.{◌≡◌, ℕ, ◌<◌, ◌≤◌, Bool, true, false, cond, List, [], ◌∷◌, ◌++◌, Option, Some, None, refl, sym, ap, ◌∙◌, subst, arith}
 use Rattle.std.specs.Prelude.{slice_get, slice_set}
 use Rattle.net_core.specs.declared.bits.Bit.{Bit}
 use Rattle.net_core.specs.declared.bits.Bit.TheVariants.{Zero, One, Net}
@@ -11,15 +11,12 @@ use Rattle.net_core.specs.declared.mems.RdPort.{RdPort}
 use Rattle.net_core.specs.declared.rams.RamCell.{RamCell}
 use Rattle.net_core.specs.declared.rams.SlotUse.{SlotUse}
 use Rattle.net_core.specs.declared.modules.Module.{Module}
-use Rattle.net_core.specs.Drivers.{Driver, HasOneDriver, Input, CombOut, RegOut, ReadOut, SlotOut}
-use Rattle.net_core.specs.Nodes.{Node, comb_node, reg_node, read_node, slot_node, read_needs, nodes_of, HasNet, Drives, Rises, Ordered, NetsWithin}
-use Rattle.net_core.specs.Ports.{inputs_of, inout_bits}
-use Rattle.net_core.proofs.Basics.{get_joined}
+use Rattle.net_core.specs.Nodes.{Node, comb_node, reg_node, read_node, slot_node, read_needs, nodes_of, HasNet, Drives, Rises}
+use Rattle.net_core.specs.Ports.{inout_bits}
 use Rattle.net_core.proofs.Ordering.{map_at, each_node, comb_place, reg_place, read_place, slot_place}
 use Rattle.net_core.proofs.RenamedNets.{map_joined}
 use Rattle.net_core.proofs.Searching.{get_set_other}
-use Rattle.net_edit.specs.Aliases.{IsOwn, IsRedirection, RedirectedIsOrdered, RedirectedHasOneDriver, RedirectedIsWithin, AliasIsRedirection}
-use Rattle.net_edit.specs.Laws.{CanAlias}
+use Rattle.net_edit.specs.Aliases.{IsOwn, RedirectedIsOrdered, RedirectedHasOneDriver, RedirectedIsWithin, AliasIsRedirection}
 use Rattle.net_edit.specs.Redirect.{bit_or, bit_read, bits_read, redirected_comb, redirected_reg, redirected_read, redirected_mem, redirected_slot, redirected_ram, redirected}
 use Rattle.net_edit.proofs.Redirecting.{inputs_kept}
 

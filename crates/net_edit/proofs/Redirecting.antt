@@ -1,6 +1,6 @@
 -- Each run of a module whose readers read other bits is one of the module.
-use Rattle.std.proofs.Common.{◌≡◌, ℕ, zero, suc, ◌+◌, ◌<◌, ◌≤◌, ◌⊎◌, inl, inr, Bool, true, false, cond, not, ◌&&◌, List, [], ◌∷◌, ◌++◌, map, length, Option, Some, None, refl, sym, ap, ◌∙◌, subst, arith, leb}
-use Rattle.std.specs.Prelude.{slice_get, slice_set}
+use Rattle.std.proofs.Common.{◌≡◌, ℕ, suc, Bool, true, false, cond, not, ◌&&◌, List, [], ◌∷◌, ◌++◌, map, length, Option, Some, None, refl, sym, ap, ◌∙◌, subst, leb}
+use Rattle.std.specs.Prelude.{slice_get}
 use Rattle.std.specs.List.{filter, flat_map}
 use Rattle.lib_core.specs.declared.library.Library.{Library}
 use Rattle.net_core.specs.declared.bits.Bit.{Bit}
@@ -17,21 +17,20 @@ use Rattle.net_core.specs.declared.rams.RamCell.{RamCell}
 use Rattle.net_core.specs.declared.rams.SlotUse.{SlotUse}
 use Rattle.net_core.specs.declared.modules.Wire.{Wire}
 use Rattle.net_core.specs.declared.modules.Module.{Module}
-use Rattle.net_core.specs.Values.{Wave, Happening, value_of, values_of, has_edge}
+use Rattle.net_core.specs.Values.{Wave, Happening, value_of, values_of}
 use Rattle.net_core.specs.Cells.{RegAllows}
 use Rattle.net_core.specs.Memory.{MemAllows}
 use Rattle.net_core.specs.Ram.{RamAllows}
 use Rattle.net_core.specs.Nodes.{HasNet}
 use Rattle.net_core.specs.Ports.{Interface, is_input_wire, is_output_wire, is_inout, is_port, insert_port, by_port, wire_bits, bits_of_pins, driving_bits, reading_bits, nets_of, inputs_of, outputs_of, face_of, pin_face, carried_face, is_inout_pin, inout_pin_bits, inout_bits, are_joined, clocks_of, mem_clocks, ram_clocks, read_clock, IsClockRoot}
 use Rattle.net_core.specs.Runs.{Run}
-use Rattle.net_core.specs.Simulation.{among}
 use Rattle.net_core.specs.Alike.{SameBit, SameBits, SameNets, SamePlaces, SameClock, SameReadClock, CombsAlike, RegsAlike, ReadsAlike, WritesAlike, MemsAlike, UsesAlike}
 use Rattle.net_core.proofs.AlikeCells.{comb_alike, reg_alike, mem_alike}
 use Rattle.net_core.proofs.AlikeRams.{ram_alike}
-use Rattle.net_core.proofs.Basics.{get_left, get_joined, has_left, has_right}
+use Rattle.net_core.proofs.Basics.{has_left, has_right}
 use Rattle.net_core.proofs.Ordering.{map_get, comb_place, reg_place, read_place, slot_place}
 use Rattle.net_core.proofs.RenamedNets.{map_joined}
-use Rattle.net_edit.specs.Aliases.{IsOwn, IsRedirection, AreOwnBut, RedirectedSimulates}
+use Rattle.net_edit.specs.Aliases.{IsOwn, IsRedirection, RedirectedSimulates}
 use Rattle.net_edit.specs.Redirect.{bit_read, bits_read, redirected_comb, redirected_reg, redirected_read, redirected_write, redirected_mem, redirected_slot, redirected_ram, redirected_pin, redirected_carried, redirected_wire, redirected}
 
 -- ---- lists

@@ -1,6 +1,6 @@
 -- A module whose readers read other bits: for each net the list has the bit that stands in its place wherever it is read. What
 -- drives nets stays, and so do input wires, inout wires and clocks.
-use Rattle.std.specs.Prelude.{ℕ, Bool, true, false, cond, List, map, Option, Some, None, slice_get}
+use Rattle.std.specs.Prelude.{cond, List, map, Option, Some, None, slice_get}
 use Rattle.net_core.specs.declared.bits.Bit.{Bit}
 use Rattle.net_core.specs.declared.bits.Bit.TheVariants.{Zero, One, Net}
 use Rattle.net_core.specs.declared.cells.Comb.{Comb}

@@ -157,3 +157,11 @@ mux_adds old new select low high ys width even wide is logic ready =
     chosen : (u : Valuation) (b : Bool) → map (λ k. cond b (bit_at (values_of u high) k) (bit_at (values_of u low) k)) (range_with_len 0 width) ≡ cond b (values_of u high) (values_of u low)
     chosen u true = ap (λ n. map (bit_at (values_of u high)) (range_with_len 0 n)) (wide ∙ even ∙ sym (values_length u high)) ∙ bits_again (values_of u high)
     chosen u false = ap (λ n. map (bit_at (values_of u low)) (range_with_len 0 n)) (wide ∙ sym (values_length u low)) ∙ bits_again (values_of u low)
+
+-- what the call that makes it gives
+pub mux_made : (old new : Editing) (select : Bit) (low high ys left right chosen : List Bit) (width : ℕ) → left ≡ low → right ≡ high → chosen ≡ select ∷ [] → length low ≡ length high → width ≡ length low → ys ≡ bits_from old.netlist.nets width → AddsLogic old new Mux left right chosen width → IsReady old (low ++ high ++ select ∷ []) → Adds old new (low ++ high ++ select ∷ []) ys (either_list select low high)
+mux_made old new select low high ys left right chosen width l r c even wide is logic ready =
+    let first = subst (λ z. AddsLogic old new Mux z right chosen width) l logic in
+    let second = subst (λ z. AddsLogic old new Mux low z chosen width) r first in
+    let third = subst (λ z. AddsLogic old new Mux low high z width) c second in
+    mux_adds old new select low high ys width even wide is third ready

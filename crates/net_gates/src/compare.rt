@@ -47,7 +47,7 @@ pub fn less_const(
 }
 
 /// The bits of the second list where the selector is 1, else those of the first.
-#[tactic(auto, using(crate::proofs::Numbers::mux_adds, crate::proofs::OneBit::nets_more))]
+#[tactic(auto, using(crate::proofs::OneBit::nets_more))]
 pub fn mux(
     alloc: Global,
     edit: &mut Edit,
