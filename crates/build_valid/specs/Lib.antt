@@ -5,3 +5,4 @@ pub mod Inouts
 pub mod Documents
 pub mod Whole
 pub mod ReadLibraries
+pub mod Texts

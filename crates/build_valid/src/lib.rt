@@ -7,4 +7,5 @@ pub mod documents;
 pub mod inouts;
 pub mod libraries;
 pub mod sound;
+pub mod texts;
 pub mod whole;
