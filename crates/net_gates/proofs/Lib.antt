@@ -5,3 +5,4 @@ pub mod OneBit
 pub mod Numbers
 pub mod NewRegister
 pub mod Ranging
+pub mod Flagging

@@ -4,6 +4,7 @@
 
 pub mod compare;
 mod constants;
+pub mod flags;
 pub mod gates;
 pub mod laws;
 mod logic;
@@ -11,6 +12,7 @@ pub mod ranges;
 pub mod registers;
 
 pub use compare::{equal_const, less_const, mux};
+pub use flags::{FlagPins, flag_mux};
 pub use gates::{and_all, and_gate, not_gate, or_all, or_gate, xor_gate};
 pub use ranges::in_range;
 pub use registers::{RegPins, register};
