@@ -1,16 +1,14 @@
 -- Pieces of logic put together.
-use Rattle.std.proofs.Common.{◌≡◌, ℕ, zero, suc, ◌+◌, ◌-◌, ◌<◌, ◌≤◌, max, ◌⊎◌, inl, inr, Bool, List, [], ◌∷◌, ◌++◌, map, length, Some, refl, sym, ap, ◌∙◌, subst, arith, append_assoc}
-use Rattle.std.specs.Prelude.{slice_get}
+use Rattle.std.proofs.Common.{◌≡◌, ℕ, zero, suc, ◌+◌, ◌-◌, ◌<◌, ◌≤◌, max, inl, inr, List, [], ◌∷◌, ◌++◌, map, Some, refl, sym, ap, ◌∙◌, arith, append_assoc}
 use Rattle.std.specs.List.{range_with_len}
 use Rattle.net_core.specs.declared.bits.Bit.{Bit}
 use Rattle.net_core.specs.declared.bits.Bit.TheVariants.{Zero, One, Net}
-use Rattle.net_core.specs.Nodes.{HasNet, Ordered}
 use Rattle.net_core.specs.Values.{Valuation, values_of, value_of}
 use Rattle.net_core.proofs.Basics.{get_joined}
-use Rattle.net_edit.specs.Edits.{Editing, as_bits, nets_from, bits_from}
+use Rattle.net_edit.specs.Edits.{Editing, as_bits, bits_from}
 use Rattle.net_edit.specs.Ranks.{bit_height, height, BitsBelow}
 use Rattle.net_edit.proofs.Heights.{height_joined}
-use Rattle.net_gates.specs.Adds.{Grows, IsWithin, Places, Extends, Adds, Mean}
+use Rattle.net_gates.specs.Adds.{Extends}
 use Rattle.net_gates.specs.Laws.{ExtensionsCompose, AddsCompose, AddsBeside, AddsAs}
 use Rattle.net_gates.proofs.Growing.{run_before, grows_on}
 

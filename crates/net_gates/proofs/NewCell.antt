@@ -1,13 +1,11 @@
 -- A logic cell over new nets.
-use Rattle.std.proofs.Common.{◌≡◌, ℕ, zero, suc, ◌+◌, ◌-◌, ◌<◌, ◌≤◌, ◌⊎◌, inl, inr, Bool, true, false, cond, List, [], ◌∷◌, ◌++◌, map, length, Some, refl, sym, ap, ◌∙◌, subst, arith, append-nil, nat_lt}
+use Rattle.std.proofs.Common.{◌≡◌, ℕ, zero, suc, ◌+◌, ◌-◌, ◌<◌, ◌≤◌, inl, inr, Bool, true, false, cond, List, [], ◌∷◌, ◌++◌, map, length, Some, refl, sym, ap, ◌∙◌, subst, arith, append-nil, nat_lt}
 use Rattle.std.specs.Prelude.{slice_get}
 use Rattle.std.specs.List.{range_with_len}
 use Rattle.std.proofs.lemmas.Bool.Decides.{nat_tests}
-use Rattle.std.proofs.lemmas.Option.{same_Some}
 use Rattle.lib_core.specs.declared.library.Library.{Library}
-use Rattle.lib_core.specs.declared.library.Tri.{Tri}
 use Rattle.net_core.specs.declared.bits.Bit.{Bit}
-use Rattle.net_core.specs.declared.bits.Bit.TheVariants.{Zero, One, Net}
+use Rattle.net_core.specs.declared.bits.Bit.TheVariants.{Net}
 use Rattle.net_core.specs.declared.cells.Comb.{Comb}
 use Rattle.net_core.specs.declared.cells.CombKind.{CombKind}
 use Rattle.net_core.specs.declared.modules.Module.{Module}
@@ -15,18 +13,17 @@ use Rattle.net_core.specs.Drivers.{HasOneDriver}
 use Rattle.net_core.specs.Logic.{row_bit}
 use Rattle.net_core.specs.Nodes.{Node, comb_node, reg_node, read_node, slot_node, nodes_of, HasNet, Drives, Rises, Ordered, NetsWithin}
 use Rattle.net_core.specs.Runs.{Run}
-use Rattle.net_core.specs.Valid.{AreApart}
-use Rattle.net_core.specs.Values.{Valuation, Wave, Happening, At, values_of, value_of, tri_of, Agrees}
+use Rattle.net_core.specs.Values.{Valuation, Wave, Happening, At, values_of, tri_of, Agrees}
 use Rattle.net_core.proofs.Ordering.{comb_place, reg_place, read_place, slot_place}
 use Rattle.net_core.proofs.Searching.{get_pushed}
 use Rattle.net_edit.specs.Edits.{Editing, as_bits, nets_from, bits_from, with_nets, with_comb, with_fresh, AddsComb}
-use Rattle.net_edit.specs.Laws.{IsUndriven, IsNodeWithin}
+use Rattle.net_edit.specs.Laws.{IsUndriven}
 use Rattle.net_edit.specs.Ranks.{height, BitsBelow}
 use Rattle.net_edit.proofs.Adding.{added_comb_has_one_driver, added_comb_is_within}
 use Rattle.net_edit.proofs.Heights.{height_at, height_least}
-use Rattle.net_edit.proofs.Lists.{Has, has_none, last_at}
+use Rattle.net_edit.proofs.Lists.{has_none, last_at}
 use Rattle.net_edit.proofs.Ranges.{range_at, range_below}
-use Rattle.net_gates.specs.Adds.{Grows, IsWithin, Places, Extends, Adds, IsReady}
+use Rattle.net_gates.specs.Adds.{Grows, IsWithin, Places, Adds, IsReady}
 use Rattle.net_gates.specs.Cells.{logic_cell, with_logic, AddsLogic}
 
 -- ---- new nets

@@ -1,29 +1,26 @@
 -- A register over new nets.
-use Rattle.std.proofs.Common.{◌≡◌, ℕ, zero, suc, ◌+◌, ◌-◌, ◌<◌, ◌≤◌, ◌⊎◌, inl, inr, Bool, true, false, cond, not, ◌&&◌, List, [], ◌∷◌, ◌++◌, length, Some, refl, sym, ap, ◌∙◌, subst, arith, append-nil}
+use Rattle.std.proofs.Common.{◌≡◌, ℕ, zero, suc, ◌+◌, ◌-◌, ◌<◌, ◌≤◌, inl, inr, Bool, true, false, cond, not, ◌&&◌, List, [], ◌∷◌, ◌++◌, length, Some, refl, sym, ap, ◌∙◌, subst, arith, append-nil}
 use Rattle.std.specs.Prelude.{slice_get}
 use Rattle.std.proofs.lemmas.Option.{same_Some}
-use Rattle.lib_core.specs.declared.library.Library.{Library}
 use Rattle.lib_core.specs.declared.library.Tri.{Tri}
 use Rattle.lib_core.specs.Rams.{tri_at}
-use Rattle.net_core.specs.declared.bits.Bit.{Bit}
-use Rattle.net_core.specs.declared.bits.Bit.TheVariants.{Zero, One, Net}
+use Rattle.net_core.specs.declared.bits.Bit.TheVariants.{Zero}
 use Rattle.net_core.specs.declared.cells.Reg.{Reg}
 use Rattle.net_core.specs.declared.modules.Module.{Module}
 use Rattle.net_core.specs.Drivers.{HasOneDriver}
 use Rattle.net_core.specs.Nodes.{Node, comb_node, reg_node, read_node, slot_node, nodes_of, HasNet, Drives, Rises, Ordered, NetsWithin}
 use Rattle.net_core.specs.Ports.{inputs_of}
-use Rattle.net_core.specs.Runs.{Run}
-use Rattle.net_core.specs.Values.{Valuation, Wave, Happening, At, value_of, tri_of, Agrees, Shows, same_bool, has_edge}
+use Rattle.net_core.specs.Values.{value_of, tri_of, Agrees, same_bool, has_edge}
 use Rattle.net_core.proofs.Ordering.{comb_place, reg_place, read_place, slot_place}
 use Rattle.net_core.proofs.Searching.{get_pushed}
 use Rattle.net_edit.specs.Edits.{Editing, nets_from, bits_from, with_nets, with_reg, with_fresh, AddsReg}
-use Rattle.net_edit.specs.Laws.{IsUndriven, IsNodeWithin, IsKnownClock}
+use Rattle.net_edit.specs.Laws.{IsUndriven, IsKnownClock}
 use Rattle.net_edit.specs.Ranks.{height}
 use Rattle.net_edit.proofs.Adding.{added_reg_has_one_driver, added_reg_is_within}
 use Rattle.net_edit.proofs.Heights.{height_least}
-use Rattle.net_edit.proofs.Lists.{has_none, last_at}
+use Rattle.net_edit.proofs.Lists.{last_at}
 use Rattle.net_edit.proofs.Ranges.{range_at, range_below}
-use Rattle.net_gates.specs.Adds.{Grows, IsWithin, Places, Extends}
+use Rattle.net_gates.specs.Adds.{Grows, IsWithin, Places}
 use Rattle.net_gates.specs.declared.registers.RegPins.{RegPins}
 use Rattle.net_gates.specs.Registers.{reg_cell, with_register, after, Remembers, AddsRegister}
 use Rattle.net_gates.proofs.NewCell.{new_net, new_rank, rank_old, rank_new, old_rises, agrees_told}

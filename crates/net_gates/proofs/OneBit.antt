@@ -1,15 +1,14 @@
 -- What gates of one bit show.
-use Rattle.std.proofs.Common.{◌≡◌, ℕ, zero, suc, ◌+◌, ◌<◌, Bool, true, false, cond, not, ◌&&◌, ◌||◌, List, [], ◌∷◌, ◌++◌, map, refl, sym, ap, ◌∙◌, subst, arith, append-nil}
-use Rattle.std.specs.List.{list_all, list_any}
+use Rattle.std.proofs.Common.{◌≡◌, ℕ, zero, suc, ◌+◌, ◌<◌, Bool, false, not, ◌&&◌, ◌||◌, List, [], ◌∷◌, ◌++◌, refl, sym, ap, subst, arith, append-nil}
 use Rattle.net_core.specs.declared.bits.Bit.{Bit}
-use Rattle.net_core.specs.declared.bits.Bit.TheVariants.{Zero, One, Net}
+use Rattle.net_core.specs.declared.bits.Bit.TheVariants.{Net}
 use Rattle.net_core.specs.declared.cells.CombKind.{CombKind}
 use Rattle.net_core.specs.declared.cells.CombKind.TheVariants.{Not, And, Or, Xor, ReduceAnd, ReduceOr}
 use Rattle.net_core.specs.Logic.{row_bit, all_set, some_set}
 use Rattle.net_core.specs.Values.{Valuation, values_of, value_of, tri_of}
 use Rattle.net_edit.specs.Edits.{Editing}
 use Rattle.net_gates.specs.Adds.{Adds, AddsBit, IsReady}
-use Rattle.net_gates.specs.Cells.{AddsLogic, with_logic}
+use Rattle.net_gates.specs.Cells.{AddsLogic}
 use Rattle.net_gates.specs.Meanings.{both_of, either_of, differ, all_of, some_of}
 use Rattle.net_gates.proofs.NewCell.{logic_adds}
 

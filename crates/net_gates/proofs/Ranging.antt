@@ -1,9 +1,9 @@
 -- Addresses in a range: pieces of logic put together.
-use Rattle.std.proofs.Common.{◌≡◌, ℕ, ◌+◌, ◌≤◌, max, Bool, true, false, not, ◌&&◌, List, [], ◌∷◌, ◌++◌, refl, sym, ap, ◌∙◌, subst, arith, append-nil}
+use Rattle.std.proofs.Common.{◌≡◌, ℕ, ◌≤◌, Bool, not, ◌&&◌, List, [], ◌∷◌, ◌++◌, refl, ap, arith}
 use Rattle.net_core.specs.declared.bits.Bit.{Bit}
 use Rattle.net_core.specs.Values.{Valuation, value_of, values_of}
 use Rattle.net_edit.specs.Edits.{Editing}
-use Rattle.net_edit.specs.Ranks.{height, BitsBelow}
+use Rattle.net_edit.specs.Ranks.{height}
 use Rattle.net_edit.proofs.Heights.{height_joined}
 use Rattle.net_gates.specs.Adds.{Adds, AddsBit, IsReady}
 use Rattle.net_gates.specs.Meanings.{both_of, is_below, is_within}

@@ -9,7 +9,7 @@ use Rattle.net_core.specs.Drivers.{HasOneDriver}
 use Rattle.net_core.specs.Nodes.{Ordered, NetsWithin}
 use Rattle.net_core.specs.Ports.{inputs_of}
 use Rattle.net_core.specs.Runs.{Run}
-use Rattle.net_core.specs.Values.{Valuation, Wave, Happening, At, value_of, values_of}
+use Rattle.net_core.specs.Values.{Valuation, Wave, Happening, At, values_of}
 use Rattle.net_edit.specs.Edits.{Editing, bits_from}
 use Rattle.net_edit.specs.Laws.{IsKnownClock}
 use Rattle.net_edit.specs.Ranks.{height, BitsBelow}

@@ -1,5 +1,5 @@
 -- A flag that chooses between lists.
-use Rattle.std.specs.Prelude.{◌≡◌, ℕ, List, [], ◌∷◌, ◌++◌}
+use Rattle.std.specs.Prelude.{ℕ, List, [], ◌∷◌, ◌++◌}
 use Rattle.lib_core.specs.declared.library.Tri.TheVariants as tri
 use Rattle.net_core.specs.declared.bits.Bit.{Bit}
 use Rattle.net_core.specs.declared.bits.Bit.TheVariants.{Zero, Net}

@@ -8,7 +8,7 @@ use Rattle.net_core.specs.Simulation.{Simulates}
 use Rattle.net_core.specs.Values.{Valuation, values_of}
 use Rattle.net_edit.specs.Edits.{Editing}
 use Rattle.net_edit.specs.Ranks.{height, BitsBelow}
-use Rattle.net_gates.specs.Adds.{Grows, IsWithin, Extends, Adds}
+use Rattle.net_gates.specs.Adds.{Grows, Extends, Adds}
 
 -- The laws: each run of a module with more logic is one of the module, with the same wave.
 abbrev pub GrownSimulates : Type 0

@@ -1,10 +1,9 @@
 -- What gates show.
-use Rattle.std.specs.Prelude.{◌≡◌, ℕ, suc, Bool, true, false, cond, not, ◌&&◌, ◌||◌, List, [], ◌∷◌, nat_eq, nat_lt}
+use Rattle.std.specs.Prelude.{◌≡◌, ℕ, Bool, true, false, cond, not, ◌&&◌, ◌||◌, List, nat_eq, nat_lt}
 use Rattle.std.specs.List.{list_all, list_any}
 use Rattle.net_core.specs.declared.bits.Bit.{Bit}
 use Rattle.net_core.specs.declared.bits.Bit.TheVariants.{Zero, One}
-use Rattle.net_core.specs.declared.bits.Clock.{Clock}
-use Rattle.net_core.specs.Values.{Valuation, Wave, Happening, At, value_of, values_of, number_of, has_edge}
+use Rattle.net_core.specs.Values.{Valuation, value_of, values_of, number_of}
 use Rattle.net_core.specs.Logic.{xor}
 use Rattle.net_core.specs.Nodes.{HasNet}
 
