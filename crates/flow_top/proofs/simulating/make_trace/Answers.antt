@@ -6,7 +6,7 @@ use Rattle.flow_top.proofs.SimStops.{stimulus_refused, trace_refused, subject_ru
 use Rattle.flow_top.proofs.simulating.make_trace.Goals as goal
 
 pub find_traces-requires-clause-runs : goal.find_traces-requires-clause-runs
-find_traces-requires-clause-runs g c = λ lives. subject_runs (sim_files_of c.args.command) (g.D.Desk.files c.args.desk.now) c.in_ok-subject.subject c.in_ok-subject.ensures.found
+find_traces-requires-clause-runs g c = λ lives within. subject_runs (sim_files_of c.args.command) (g.D.Desk.files c.args.desk.now) c.in_ok-subject.subject c.in_ok-subject.ensures.found
 
 pub returns-in_err-events-clause-stopped : goal.returns-in_err-events-clause-stopped
 returns-in_err-events-clause-stopped g c =

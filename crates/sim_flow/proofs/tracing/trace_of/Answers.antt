@@ -3,7 +3,7 @@ use Rattle.sim_flow.proofs.Traced.{are_traces}
 use Rattle.sim_flow.proofs.tracing.trace_of.Goals as goal
 
 pub trace_all-requires-clause-inputs : goal.trace_all-requires-clause-inputs
-trace_all-requires-clause-inputs g c = λ t e at. omega (arith, (c.requires.whole.each t e at).values)
+trace_all-requires-clause-inputs g c = λ lives within t e at. omega (arith, (c.requires.whole.each t e at).values)
 
 pub returns-clause-traced : goal.returns-clause-traced
 returns-clause-traced g c =
