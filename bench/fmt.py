@@ -9,7 +9,7 @@ import shutil
 import sys
 import tempfile
 
-from timing import run
+from timing import best
 
 MEGABYTE = 1_000_000
 MOST_DIGITS = 4_000_000
@@ -50,15 +50,6 @@ def wires(size):
     count = max(1, 100_000 * size // (12 * MEGABYTE))
     pad = "w" * max(1, size // count - 24)
     return "\n".join(["module \\top"] + [f"  wire width 3 \\{pad}{n}" for n in range(count)] + ["end", ""])
-
-
-def best(words):
-    """The least time and memory of three runs that have to end well."""
-    runs = [run(words) for _ in range(3)]
-    for _, _, status in runs:
-        if status != 0:
-            sys.exit(f"{' '.join(words)} ended with {status}")
-    return min(t for t, _, _ in runs), min(m for _, m, _ in runs)
 
 
 def main():

@@ -10,7 +10,7 @@ import os
 import sys
 import tempfile
 
-from timing import run
+from timing import best
 
 LIBRARY = """ram distributed $__R16X4_ {
     abits 4;
@@ -71,15 +71,6 @@ def memories(count):
 
 
 KINDS = ((cells, (25_000, 50_000, 100_000)), (wires, (1_000_000, 2_000_000, 4_000_000)), (memories, (125, 250, 500)))
-
-
-def best(words):
-    """The least time and memory of three runs that have to end well."""
-    runs = [run(words) for _ in range(3)]
-    for _, _, status in runs:
-        if status != 0:
-            sys.exit(f"{' '.join(words)} ended with {status}")
-    return min(t for t, _, _ in runs), min(m for _, m, _ in runs)
 
 
 def main():

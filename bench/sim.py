@@ -4,7 +4,7 @@
 Usage: bench/sim.py [PROGRAM]     PROGRAM is crates/ramflow/out/ramflow if left out; `rt run` builds it.
 Two designs: 10,000 logic cells of which every tenth is a register, and 64 memories of 16 words of 4 bits, each with a write and a
 read. Each is simulated by 1 and by 16 seeds. For each it prints the seconds of a run without events (reading and building), the
-seconds that the events take besides, the best of three runs, and events per second, those of all seeds together. Where Yosys is
+seconds by the clock that the events take besides, the best of three runs, and events per second, those of all seeds together. Where Yosys is
 installed its `sim` runs the same design for as many clock cycles.
 """
 import os
@@ -13,7 +13,8 @@ import shutil
 import sys
 import tempfile
 
-from map import LIBRARY, best, cells, memories
+from map import LIBRARY, cells, memories
+from timing import best_elapsed
 
 EVENTS = 1000
 
@@ -43,7 +44,7 @@ def write(path, text):
 def yosys_seconds(netlist):
     """The seconds of Yosys for so many clock cycles, without those of a run of one cycle."""
     read = f"read_rtlil {netlist}; "
-    runs = [best(["yosys", "-p", f"{read}sim -q -clock clk -n {cycles} top"])[0] for cycles in (1, EVENTS)]
+    runs = [best_elapsed(["yosys", "-p", f"{read}sim -q -clock clk -n {cycles} top"]) for cycles in (1, EVENTS)]
     return runs[1] - runs[0]
 
 
@@ -58,9 +59,9 @@ def main():
             for seeds in (1, 16):
                 words = [program, "sim", netlist, library, stimulus, trace, str(seeds)]
                 write(stimulus, "")
-                start, _ = best(words)
+                start = best_elapsed(words)
                 write(stimulus, events_of(EVENTS))
-                seconds = best(words)[0] - start
+                seconds = best_elapsed(words) - start
                 print(f"{name:10} {seeds:5} {start:8.2f} {seconds:8.2f} {EVENTS * seeds / max(seconds, 1e-3):9.0f}", flush=True)
             if shutil.which("yosys"):
                 seconds = yosys_seconds(netlist)
