@@ -1,15 +1,14 @@
 -- A module that can run has few enough cells, and its state keeps the variants of its RAM cells.
-use Rattle.std.proofs.Common.{◌≡◌, ℕ, zero, suc, ◌+◌, ◌<◌, ◌≤◌, ◌^◌, Bool, true, List, [], ◌∷◌, ◌++◌, map, length, Option, Some, None, refl, sym, ap, ◌∙◌, arith, length-append}
+use Rattle.std.proofs.Common.{◌≡◌, ℕ, zero, suc, ◌≤◌, true, List, [], ◌∷◌, ◌++◌, map, length, Option, Some, None, refl, sym, ap, ◌∙◌, arith, length-append}
 use Rattle.std.specs.Prelude.{slice_get}
 use Rattle.std.specs.List.{flat_map}
 use Rattle.std.proofs.lemmas.Option.{same_Some}
 use Rattle.lib_core.specs.declared.library.Library.{Library}
 use Rattle.lib_core.specs.declared.library.Variant.{Variant}
-use Rattle.net_core.specs.declared.mems.Mem.{Mem}
 use Rattle.net_core.specs.declared.rams.RamCell.{RamCell}
 use Rattle.net_core.specs.declared.modules.Module.{Module}
 use Rattle.net_core.specs.Drivers.{HasOneDriver, Input}
-use Rattle.net_core.specs.Nodes.{comb_node, reg_node, read_node, mem_nodes, ram_nodes, nodes_of}
+use Rattle.net_core.specs.Nodes.{comb_node, reg_node, read_node, mem_nodes, ram_nodes}
 use Rattle.net_core.specs.Ports.{inputs_of}
 use Rattle.net_core.specs.Runs.{variant_of}
 use Rattle.net_core.specs.Shape.{fits_variant}

@@ -13,7 +13,7 @@ use Rattle.net_core.specs.declared.rams.RamCell.{RamCell}
 use Rattle.net_core.specs.declared.rams.SlotUse.{SlotUse}
 use Rattle.net_core.specs.declared.modules.Module.{Module}
 use Rattle.net_core.specs.Drivers.{HasOneDriver}
-use Rattle.net_core.specs.Nodes.{Node, comb_node, reg_node, read_node, slot_node, Drives, NetsWithin}
+use Rattle.net_core.specs.Nodes.{Node, comb_node, reg_node, read_node, slot_node, NetsWithin}
 use Rattle.net_core.specs.Values.{Valuation, bit_at}
 use Rattle.net_core.proofs.Basics.{get_below}
 use Rattle.ram_step.specs.Moments.{valuation}
@@ -21,8 +21,8 @@ use Rattle.picked_run.specs.States.{SimLook}
 use Rattle.sim_settle.specs.declared.places.NodePlace.{NodePlace}
 use Rattle.sim_settle.specs.declared.places.NodePlace.TheVariants as place
 use Rattle.sim_settle.specs.declared.schedules.Schedule.{Schedule}
-use Rattle.sim_settle.specs.Nets.{IsAmong, AreBelow, AreApart, Writes, Fills}
-use Rattle.sim_settle.specs.Places.{node_at, HasNode, HaveNodes}
+use Rattle.sim_settle.specs.Nets.{AreBelow, AreApart, Writes, Fills}
+use Rattle.sim_settle.specs.Places.{node_at, HasNode}
 use Rattle.sim_settle.specs.Schedules.{IsSchedule, IsWide}
 use Rattle.sim_settle.specs.Working.{PlaceSays, PlaceSteps, Worked, Begins}
 use Rattle.sim_settle.proofs.Marking.{nets_below}

@@ -12,8 +12,8 @@ use Rattle.net_core.specs.Runs.{shown}
 use Rattle.ram_step.specs.Moments.{valuation}
 use Rattle.picked_run.specs.Settled.{IsSettled}
 use Rattle.picked_run.specs.States.{SimLook, sim_start, sim_stepped}
-use Rattle.picked_run.specs.PickedRuns.{PickedRun, IsShown}
-use Rattle.cycle_sim.specs.Views.{SimView, first_view, stepped_view, SettledWith, HasInputs}
+use Rattle.picked_run.specs.PickedRuns.{IsShown}
+use Rattle.cycle_sim.specs.Views.{SimView, first_view, HasInputs}
 use Rattle.cycle_sim.specs.Traces.{HaveInputs, ShowsFrom, ShowsEvent}
 
 module _ (lib : Library) (m : Module) (seed : ℕ) where

@@ -1,15 +1,12 @@
 -- What the parts of a simulation say of what contracts see of it.
-use Rattle.std.proofs.Common.{◌≡◌, ℕ, ◌+◌, ◌<◌, Bool, true, false, List, length, get_or, Option, Some, None, refl, sym, ap, subst, ◌∙◌}
-use Rattle.std.specs.Prelude.{slice_get, is_some, IsSome}
+use Rattle.std.proofs.Common.{◌≡◌, ℕ, ◌<◌, Bool, true, false, List, length, get_or, Option, Some, sym, ap, subst, ◌∙◌}
+use Rattle.std.specs.Prelude.{is_some, IsSome}
 use Rattle.std.proofs.lemmas.Option.{same_Some}
 use Rattle.net_core.specs.declared.bits.Event.{Event}
-use Rattle.net_core.specs.Ports.{inputs_of}
 use Rattle.net_core.specs.Values.{bit_at}
-use Rattle.ram_step.specs.Moments.{valuation}
-use Rattle.picked_run.specs.Settled.{IsSettled}
 use Rattle.sim_settle.proofs.Writing.{bit_at_is}
 use Rattle.cycle_sim.proofs.Placed.{same_read}
-use Rattle.cycle_sim.specs.Views.{SimView, settled_values, with_values, stepped_view, HasSettled, SettledWith, ShowsInputs, AreInputsOf}
+use Rattle.cycle_sim.specs.Views.{SimView, settled_values, with_values, stepped_view, HasSettled, SettledWith, ShowsInputs}
 
 pub values_are : (settled : Bool) (items values : List Bool) → settled_values settled items ≡ Some values → items ≡ values
 values_are true items values h = same_Some items values h

@@ -1,5 +1,5 @@
 -- What holds of the parts of a simulation at all times.
-use Rattle.std.specs.Prelude.{◌≡◌, ℕ, Bool, List, length}
+use Rattle.std.specs.Prelude.{◌≡◌, Bool, List, length}
 use Rattle.lib_core.specs.declared.library.Library.{Library}
 use Rattle.net_core.specs.declared.modules.Module.{Module}
 use Rattle.picked_run.specs.Conditions.{CanRun}

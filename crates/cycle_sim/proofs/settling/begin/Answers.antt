@@ -1,5 +1,4 @@
-use Rattle.std.proofs.Common.{◌≡◌, ap, sym, subst, ◌∙◌}
-use Rattle.ram_step.specs.Moments.{valuation}
+use Rattle.std.proofs.Common.{sym, subst, ◌∙◌}
 use Rattle.sim_settle.specs.Nets.{AreApart}
 use Rattle.cycle_sim.proofs.Counts.{inputs_apart}
 use Rattle.cycle_sim.proofs.Placed.{begins_so}

@@ -1,6 +1,4 @@
-use Rattle.std.proofs.Common.{◌≡◌, ◌≤◌, length, List, sym, ap, subst, ◌∙◌, arith}
-use Rattle.std.specs.Prelude.{slice_get}
-use Rattle.net_core.specs.Values.{Valuation}
+use Rattle.std.proofs.Common.{List, subst, arith}
 use Rattle.ram_step.specs.Moments.{valuation}
 use Rattle.sim_settle.specs.declared.places.NodePlace.{NodePlace}
 use Rattle.sim_settle.specs.Working.{Worked}

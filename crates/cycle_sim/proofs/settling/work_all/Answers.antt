@@ -1,5 +1,4 @@
-use Rattle.std.proofs.Common.{◌≡◌, ◌≤◌, length, slice_index_or, ◌∙◌, refl, arith}
-use Rattle.ram_step.specs.Moments.{valuation}
+use Rattle.std.proofs.Common.{slice_index_or, arith}
 use Rattle.sim_settle.specs.declared.places.NodePlace.TheVariants as place
 use Rattle.sim_settle.proofs.Marking.{place_read}
 use Rattle.cycle_sim.proofs.Placed.{work_more, work_ends, same_read}

@@ -1,4 +1,4 @@
-use Rattle.std.proofs.Common.{◌≡◌, ◌≤◌, length, take, ap, sym, ◌∙◌, arith}
+use Rattle.std.proofs.Common.{length, ap, sym, ◌∙◌, arith}
 use Rattle.cycle_sim.proofs.Placed.{fits_room, part_length, needs_within, drives_within, nets_apart, place_steps}
 use Rattle.cycle_sim.proofs.settling.work_place.Goals as goal
 

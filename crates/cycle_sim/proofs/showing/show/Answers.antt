@@ -1,4 +1,4 @@
-use Rattle.std.proofs.Common.{◌≡◌, ◌≤◌, length, arith}
+use Rattle.std.proofs.Common.{arith}
 use Rattle.net_core.specs.Nodes.{comb_node, read_node, slot_node}
 use Rattle.cycle_sim.proofs.Placed.{node_of_comb, node_of_read, node_of_slot, reg_below, mem_below, port_below, ram_below, slot_below}
 use Rattle.cycle_sim.proofs.showing.show.Goals as goal

@@ -1,4 +1,4 @@
-use Rattle.std.proofs.Common.{◌≡◌, ◌+◌, ◌-◌, ◌/◌}
+use Rattle.std.proofs.Common.{◌+◌, ◌-◌, ◌/◌}
 use Rattle.cycle_sim.specs.Traces.{AreShown}
 use Rattle.cycle_sim.proofs.Seeds.{ok_at, two_halves}
 use Rattle.cycle_sim.proofs.traces.+fn-trace_some-join+arg2+fn-trace_some-join+arg3+trace_some.Goals as goal

@@ -1,4 +1,4 @@
-use Rattle.std.proofs.Common.{◌≡◌, slice_index_or, ◌∙◌}
+use Rattle.std.proofs.Common.{slice_index_or, ◌∙◌}
 use Rattle.net_core.specs.declared.bits.Bit.TheVariants.{Zero as Low}
 use Rattle.ram_step.specs.Moments.{valuation}
 use Rattle.cycle_sim.proofs.Lines.{values_more, values_all, bit_below}

@@ -1,8 +1,6 @@
-use Rattle.std.proofs.Common.{◌≡◌, ◌<◌, sym, ap, subst, ◌∙◌, arith}
-use Rattle.net_core.specs.declared.modules.Module.{Module}
-use Rattle.cycle_sim.specs.Views.{HasInputs}
+use Rattle.std.proofs.Common.{sym, subst, arith}
 use Rattle.cycle_sim.specs.Traces.{ShowsFrom}
-use Rattle.cycle_sim.proofs.Running.{follows_first, follows_more, follows_all, inputs_there, below_like}
+use Rattle.cycle_sim.proofs.Running.{follows_more, follows_all, inputs_there, below_like}
 use Rattle.cycle_sim.proofs.traces.run_all.Goals as goal
 
 pub run_event-requires-clause-inputs : goal.run_event-requires-clause-inputs

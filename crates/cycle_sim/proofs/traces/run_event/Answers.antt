@@ -1,4 +1,4 @@
-use Rattle.std.proofs.Common.{◌≡◌, ◌<◌, arith}
+use Rattle.std.proofs.Common.{arith}
 use Rattle.cycle_sim.proofs.Viewing.{settled_like, stepped_like, shows_inputs, nets_like, steps_like, is_there}
 use Rattle.cycle_sim.proofs.traces.run_event.Goals as goal
 

@@ -1,4 +1,4 @@
-use Rattle.std.proofs.Common.{◌≡◌, ◌<◌, ap, sym, subst, ◌∙◌}
+use Rattle.std.proofs.Common.{ap, subst, ◌∙◌}
 use Rattle.net_core.specs.Nodes.{HasNet}
 use Rattle.cycle_sim.specs.Views.{SimView}
 use Rattle.cycle_sim.proofs.Running.{lines_shown, below_like}

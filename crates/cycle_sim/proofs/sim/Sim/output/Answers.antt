@@ -1,4 +1,4 @@
-use Rattle.std.proofs.Common.{◌≡◌, ◌<◌, length, ap, sym, ◌∙◌, arith}
+use Rattle.std.proofs.Common.{◌<◌, length, ap, sym, ◌∙◌, arith}
 use Rattle.net_core.specs.Values.{value_of}
 use Rattle.ram_step.specs.Moments.{valuation}
 use Rattle.cycle_sim.specs.Views.{SimView}
