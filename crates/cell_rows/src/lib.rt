@@ -9,8 +9,6 @@ pub mod operands;
 pub mod pin;
 pub mod places;
 pub mod reg;
-#[cfg(test)]
-mod tests;
 pub mod written;
 
 pub use carried::drives;

@@ -1,4 +1,3 @@
-pub mod Constants
 pub mod Naming
 pub mod Numbers
 pub mod Operands

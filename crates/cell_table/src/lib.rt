@@ -6,8 +6,6 @@ mod names;
 mod operand;
 mod row;
 mod selector;
-#[cfg(test)]
-mod tests;
 
 pub use names::{comb_kind, comb_type, ff_kind, ff_type, is_carried};
 pub use row::eval;

@@ -4,8 +4,6 @@
 mod fits;
 mod names;
 mod signal;
-#[cfg(test)]
-mod tests;
 mod tokens;
 
 pub use fits::is_writable;

@@ -8,8 +8,6 @@ pub mod kinds;
 pub mod pairs;
 pub mod placed;
 pub mod priorities;
-#[cfg(test)]
-mod tests;
 
 pub use clocks::{all_one_clock, all_one_domain, fits_edge, one_domain, same_clock};
 pub use items::{enable_emulated, outside_parts, register_outside};

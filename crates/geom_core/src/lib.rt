@@ -5,8 +5,6 @@ pub mod candidates;
 pub mod geometry;
 pub mod splits;
 pub mod spreads;
-#[cfg(test)]
-mod tests;
 
 pub use candidates::{Candidate, RamChoice, ReadPlace, Shape};
 pub use geometry::{BasePlace, Geometry};

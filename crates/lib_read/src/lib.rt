@@ -4,8 +4,6 @@
 mod groups;
 mod kinds;
 mod read;
-#[cfg(test)]
-mod tests;
 
 pub use lib_tree::{LibCode, LibFault};
 pub use read::read_library;

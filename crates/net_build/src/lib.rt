@@ -5,8 +5,6 @@ mod building;
 mod fault;
 mod limits;
 mod module;
-#[cfg(test)]
-mod tests;
 
 pub use building::build;
 pub use fault::BuildFault;

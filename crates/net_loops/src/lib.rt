@@ -8,8 +8,6 @@ mod loops;
 mod nodes;
 mod rings;
 mod rows;
-#[cfg(test)]
-mod tests;
 mod walk;
 
 pub use loops::first_loop;

@@ -6,8 +6,6 @@ pub mod choosing;
 pub mod laws;
 pub mod planning;
 pub mod rooms;
-#[cfg(test)]
-mod tests;
 
 pub use choosing::least_plain;
 pub use planning::{Planned, plans_of};

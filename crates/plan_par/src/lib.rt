@@ -4,8 +4,6 @@
 pub mod gates;
 mod limits;
 mod planning;
-#[cfg(test)]
-mod tests;
 
 pub use gates::{Gate, OpenGate};
 pub use limits::are_within;

@@ -11,8 +11,6 @@ pub mod laws;
 mod opening;
 mod reading;
 pub mod sites;
-#[cfg(test)]
-mod tests;
 mod writing;
 
 pub use best::least;

@@ -6,8 +6,6 @@ mod line;
 mod options;
 mod print;
 mod signal;
-#[cfg(test)]
-mod tests;
 
 pub use laws::{well_formed_is_writable, what_reads_is_writable, writable_is_well_formed};
 pub use print::print_doc;
