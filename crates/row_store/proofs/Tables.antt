@@ -1,7 +1,8 @@
 -- Rows as the lists that contracts see: their bits, and what packing and changing makes of them.
-use Rattle.std.proofs.Common.{◌≡◌, ◌≢◌, ℕ, zero, suc, ◌+◌, ◌-◌, ◌*◌, ◌/◌, ◌%◌, ◌<◌, ◌≤◌, Bool, true, false, ◌&&◌, ◌||◌, cond, nat_eq, nat_lt, List, [], ◌∷◌, ◌++◌, map, length, get_or, take, drop, set, refl, sym, ap, ◌∙◌, ⊎_elim, arith, eq-eqb}
-use Rattle.std.specs.List.{range_with_len, slice_range}
-use Rattle.std.proofs.lemmas.List.{get_or_past, get_or-set_same, get_or-set_other, get_or-map, map-set, map-append, get_or-take, get_or-drop}
+use Rattle.std.proofs.Common.{◌≡◌, ◌≢◌, ℕ, zero, suc, ◌+◌, ◌-◌, ◌*◌, ◌/◌, ◌%◌, ◌<◌, ◌≤◌, Bool, true, false, ◌&&◌, ◌||◌, cond, nat_eq, nat_lt, List, [], ◌∷◌, ◌++◌, map, length, get_or, take, drop, set, refl, sym, ap, subst, ◌∙◌, ⊎_elim, arith, eq-eqb}
+use Rattle.std.specs.List.{All, range_with_len, slice_range}
+use Rattle.std.proofs.lemmas.List.Elements.{All-get_or}
+use Rattle.std.proofs.lemmas.List.{get_or_past, get_or-set_same, get_or-set_other, get_or-map, map-set, map-append, get_or-take, get_or-drop, length-take}
 use Rattle.std.proofs.Math.ListN.{length-map}
 use Rattle.std.proofs.lemmas.List.FromFn.{get_or-map-range_with_len, map-range_with_len_more, length-map-range_with_len}
 use Rattle.std.proofs.lemmas.Bool.{cases_lt, cases_order, ne_eqb, lt-ltb, le-ltb}
@@ -10,7 +11,7 @@ use Rattle.lib_core.specs.declared.library.Tri.{Tri}
 use Rattle.lib_core.specs.declared.library.Tri.TheVariants.{Zero, One, Any}
 use Rattle.lib_core.specs.Rams.{tri_at}
 use Rattle.row_store.specs.Limbs.{bit_in}
-use Rattle.row_store.specs.Rows.{is_one, is_defined, tri_by, tri_in, row_in, row_of, bit_of, row_cut, changed_from, changed}
+use Rattle.row_store.specs.Rows.{is_one, is_defined, tri_by, tri_in, row_in, IsPacked, row_of, bit_of, row_cut, changed_from, changed}
 use Rattle.row_store.proofs.Lanes.{bit_of_limb, limb_zero}
 
 pub tri_at_is : (xs : List Tri) (k : ℕ) → tri_at xs k ≡ get_or xs k Any
@@ -70,22 +71,48 @@ pub put_tri : (bits : List Tri) (at k : ℕ) (d : Tri) → at < length bits → 
 put_tri bits at k d h same = same_default bits at d Any h ∙ sym (tri_at_is bits at) ∙ ap (tri_at bits) (sym same)
 
 -- a packed row, when all its bits are in
-pub all_packed : (values known : List ℕ) (bits : List Tri) (k : ℕ) → bit_in values k ≡ (nat_lt k (length bits) && is_one (tri_at bits k)) → bit_in known k ≡ (nat_lt k (length bits) && is_defined (tri_at bits k)) → tri_in values known k ≡ tri_at bits k
-all_packed values known bits k v n =
+pub all_values : (values : List ℕ) (bits : List Tri) (k : ℕ) → bit_in values k ≡ (nat_lt k (length bits) && is_one (tri_at bits k)) → bit_in values k ≡ is_one (tri_at bits k)
+all_values values bits k v =
     ⊎_elim
-    (λ inside.
-    let v' : bit_in values k ≡ is_one (tri_at bits k) = v ∙ ap (λ t. t && is_one (tri_at bits k)) (lt-ltb k (length bits) inside) in
-    let n' : bit_in known k ≡ is_defined (tri_at bits k) = n ∙ ap (λ t. t && is_defined (tri_at bits k)) (lt-ltb k (length bits) inside) in
-    ap (λ t. tri_by t (bit_in known k)) v' ∙ ap (λ t. tri_by (is_one (tri_at bits k)) t) n' ∙ tri_by_parts (tri_at bits k))
-    (λ beyond.
-    let n' : bit_in known k ≡ false = n ∙ ap (λ t. t && is_defined (tri_at bits k)) (le-ltb k (length bits) beyond) in
-    ap (λ t. tri_by (bit_in values k) t) n' ∙ sym (tri_at_is bits k ∙ get_or_past bits k Any beyond))
+    (λ inside. v ∙ ap (λ t. t && is_one (tri_at bits k)) (lt-ltb k (length bits) inside))
+    (λ beyond. v ∙ ap (λ t. t && is_one (tri_at bits k)) (le-ltb k (length bits) beyond) ∙ sym (ap is_one (tri_at_is bits k ∙ get_or_past bits k Any beyond)))
     (cases_lt k (length bits))
+
+pub all_known : (known : List ℕ) (bits : List Tri) (k : ℕ) → bit_in known k ≡ (nat_lt k (length bits) && is_defined (tri_at bits k)) → bit_in known k ≡ is_defined (tri_at bits k)
+all_known known bits k v =
+    ⊎_elim
+    (λ inside. v ∙ ap (λ t. t && is_defined (tri_at bits k)) (lt-ltb k (length bits) inside))
+    (λ beyond. v ∙ ap (λ t. t && is_defined (tri_at bits k)) (le-ltb k (length bits) beyond) ∙ sym (ap is_defined (tri_at_is bits k ∙ get_or_past bits k Any beyond)))
+    (cases_lt k (length bits))
+
+pub tri_packed : (values known : List ℕ) (bits : List Tri) (k : ℕ) → bit_in values k ≡ is_one (tri_at bits k) → bit_in known k ≡ is_defined (tri_at bits k) → tri_in values known k ≡ tri_at bits k
+tri_packed values known bits k v n = ap (λ t. tri_by t (bit_in known k)) v ∙ ap (λ t. tri_by (is_one (tri_at bits k)) t) n ∙ tri_by_parts (tri_at bits k)
+
+pub packed_is : (width : ℕ) (values known : List ℕ) (bits : List Tri) → length bits ≤ width → ((k : ℕ) → bit_in values k ≡ is_one (tri_at bits k)) → ((k : ℕ) → bit_in known k ≡ is_defined (tri_at bits k)) → IsPacked width values known
+packed_is width values known bits e v n k =
+    let same : tri_in values known k ≡ tri_at bits k = tri_packed values known bits k (v k) (n k) in
+    ⊎_elim
+    (λ inside. (
+      v k ∙ sym (ap (λ t. t && is_one (tri_in values known k)) (lt-ltb k width inside) ∙ ap is_one same),
+      n k ∙ sym (ap (λ t. t && is_defined (tri_in values known k)) (lt-ltb k width inside) ∙ ap is_defined same),
+    ))
+    (λ beyond.
+    let none : tri_at bits k ≡ Any = tri_at_is bits k ∙ get_or_past bits k Any (omega (arith, e, beyond)) in (
+      v k ∙ ap is_one none ∙ sym (ap (λ t. t && is_one (tri_in values known k)) (le-ltb k width beyond)),
+      n k ∙ ap is_defined none ∙ sym (ap (λ t. t && is_defined (tri_in values known k)) (le-ltb k width beyond)),
+    ))
+    (cases_lt k width)
 
 pub in_range : (xs : List Tri) (from width k : ℕ) → k < width → get_or (slice_range xs from (from + width)) k Any ≡ get_or xs (from + k) Any
 in_range xs from width k h =
     let e : from + width - from ≡ width = omega arith in
     ap (λ n. get_or (take n (drop from xs)) k Any) e ∙ get_or-take width (drop from xs) k Any h ∙ get_or-drop from xs k Any
+
+pub range_short : (xs : List Tri) (from width : ℕ) → length (slice_range xs from (from + width)) ≤ width
+range_short xs from width =
+    let e : from + width - from ≡ width = omega arith in
+    let few : length (take (from + width - from) (drop from xs)) ≤ from + width - from = omega (arith, length-take (from + width - from) (drop from xs)) in
+    omega (arith, e, few)
 
 -- a row of the list that contracts see
 pub row_seen : {X : Type 0} (width : ℕ) (vs ks : X → List ℕ) (items : List X) (now : List (List Tri)) (i : ℕ) (x : X) → map (λ r. row_in width (vs r) (ks r)) items ≡ now → i < length now → x ≡ get_or items i x → row_of now i ≡ row_in width (vs x) (ks x)
@@ -123,23 +150,105 @@ cut_more width vs ks items more x init piece row pushed e cut each =
     ∙ ap (λ r. map (row_cut init width) (range_with_len 0 row) ++ r ∷ []) last
     ∙ sym (map-range_with_len_more (row_cut init width) 0 row row (omega arith))
 
--- what is changed in a row
-pub chosen_tri : (m v kn ov ok nv nk : Bool) → nv ≡ cond m v ov → nk ≡ cond m kn ok → cond m (tri_by v kn) (tri_by ov ok) ≡ tri_by nv nk
-chosen_tri true v kn ov ok nv nk e f = cc
-chosen_tri false v kn ov ok nv nk e f = cc
+-- what is changed in a row: the masked bits inside it take the known values
+pub lane_tri : (m i v kn ov ok nv nk : Bool) → i ≡ true → nv ≡ cond (m && i) (v && kn) ov → nk ≡ cond (m && i) kn ok → cond m (tri_by v kn) (tri_by ov ok) ≡ tri_by nv nk
+lane_tri true true true true ov ok nv nk h e f = cc
+lane_tri true true true false ov ok nv nk h e f = cc
+lane_tri true true false true ov ok nv nk h e f = cc
+lane_tri true true false false ov ok nv nk h e f = cc
+lane_tri true false v kn ov ok nv nk h e f = absurd (cc)
+lane_tri false i v kn ov ok nv nk h e f = cc
 
-pub changed_row : (at n : ℕ) (m v kn ov ok nv nk : List ℕ) → ((k : ℕ) → bit_in nv k ≡ cond (bit_in m k) (bit_in v k) (bit_in ov k)) → ((k : ℕ) → bit_in nk k ≡ cond (bit_in m k) (bit_in kn k) (bit_in ok k)) → changed_from at m v kn (map (tri_in ov ok) (range_with_len at n)) ≡ map (tri_in nv nk) (range_with_len at n)
-changed_row at zero m v kn ov ok nv nk e f = refl
-changed_row at (suc n) m v kn ov ok nv nk e f =
-    let here : cond (bit_in m at) (tri_in v kn at) (tri_in ov ok at) ≡ tri_in nv nk at = chosen_tri (bit_in m at) (bit_in v at) (bit_in kn at) (bit_in ov at) (bit_in ok at) (bit_in nv at) (bit_in nk at) (e at) (f at) in
-    let rest = changed_row (at + 1) n m v kn ov ok nv nk e f in
+-- a lane is well packed
+abbrev pub IsLane : Bool → Bool → Bool → Type 0
+IsLane i v n = (v ≡ (i && is_one (tri_by v n))) × (n ≡ (i && is_defined (tri_by v n)))
+
+pub new_lane : (i v n : Bool) → IsLane i (i && (v && n)) (i && n)
+new_lane true true true = (refl, refl)
+new_lane true true false = (refl, refl)
+new_lane true false true = (refl, refl)
+new_lane true false false = (refl, refl)
+new_lane false v n = (refl, refl)
+
+pub kept_lane : (m i v kn ov ok : Bool) → IsLane i ov ok → IsLane i (cond (m && i) (v && kn) ov) (cond (m && i) kn ok)
+kept_lane true true v kn ov ok old = new_lane true v kn
+kept_lane true false v kn ov ok old = old
+kept_lane false i v kn ov ok old = old
+
+pub packed_lane : (m i v kn ov ok nv nk : Bool) → nv ≡ cond (m && i) (v && kn) ov → nk ≡ cond (m && i) kn ok → IsLane i ov ok → IsLane i nv nk
+packed_lane m i v kn ov ok nv nk e f old =
+    let made : IsLane i (cond (m && i) (v && kn) ov) (cond (m && i) kn ok) = kept_lane m i v kn ov ok old in
+    (e ∙ made.0 ∙ sym (ap (λ a. i && is_one (tri_by a nk)) e ∙ ap (λ b. i && is_one (tri_by (cond (m && i) (v && kn) ov) b)) f), f ∙ made.1 ∙ sym (ap (λ a. i && is_defined (tri_by a nk)) e ∙ ap (λ b. i && is_defined (tri_by (cond (m && i) (v && kn) ov) b)) f))
+
+-- the bits of a row after a change: the mask without what lies past the width, and the values without what is not known
+pub record IsSetTo (width : ℕ) (m v kn ov ok nv nk : List ℕ) : Type 0 where
+  pub values : (k : ℕ) → bit_in nv k ≡ cond (bit_in m k && nat_lt k width) (bit_in v k && bit_in kn k) (bit_in ov k)
+  pub known : (k : ℕ) → bit_in nk k ≡ cond (bit_in m k && nat_lt k width) (bit_in kn k) (bit_in ok k)
+
+pub set_to : (width : ℕ) (m i im v kn vn ov ok nv nk : List ℕ) → ((k : ℕ) → bit_in i k ≡ nat_lt k width) → ((k : ℕ) → bit_in im k ≡ (bit_in m k && bit_in i k)) → ((k : ℕ) → bit_in vn k ≡ (bit_in v k && bit_in kn k)) → ((k : ℕ) → bit_in nv k ≡ cond (bit_in im k) (bit_in vn k) (bit_in ov k)) → ((k : ℕ) → bit_in nk k ≡ cond (bit_in im k) (bit_in kn k) (bit_in ok k)) → IsSetTo width m v kn ov ok nv nk
+set_to width m i im v kn vn ov ok nv nk inside masked valued e f = record {
+  values = λ k. e k ∙ ap (λ t. cond t (bit_in vn k) (bit_in ov k)) (masked k ∙ ap (λ t. bit_in m k && t) (inside k)) ∙ ap (λ t. cond (bit_in m k && nat_lt k width) t (bit_in ov k)) (valued k);
+  known = λ k. f k ∙ ap (λ t. cond t (bit_in kn k) (bit_in ok k)) (masked k ∙ ap (λ t. bit_in m k && t) (inside k));
+}
+
+pub set_packed : (width : ℕ) (m v kn ov ok nv nk : List ℕ) → IsSetTo width m v kn ov ok nv nk → IsPacked width ov ok → IsPacked width nv nk
+set_packed width m v kn ov ok nv nk made old k = packed_lane (bit_in m k) (nat_lt k width) (bit_in v k) (bit_in kn k) (bit_in ov k) (bit_in ok k) (bit_in nv k) (bit_in nk k) (made.values k) (made.known k) (old k)
+
+pub changed_row : (width at n : ℕ) (m v kn ov ok nv nk : List ℕ) → at + n ≤ width → IsSetTo width m v kn ov ok nv nk → changed_from at m v kn (map (tri_in ov ok) (range_with_len at n)) ≡ map (tri_in nv nk) (range_with_len at n)
+changed_row width at zero m v kn ov ok nv nk h made = refl
+changed_row width at (suc n) m v kn ov ok nv nk h made =
+    let here : cond (bit_in m at) (tri_in v kn at) (tri_in ov ok at) ≡ tri_in nv nk at = lane_tri (bit_in m at) (nat_lt at width) (bit_in v at) (bit_in kn at) (bit_in ov at) (bit_in ok at) (bit_in nv at) (bit_in nk at) (lt-ltb at width (omega arith)) (made.values at) (made.known at) in
+    let rest = changed_row width (at + 1) n m v kn ov ok nv nk (omega arith) made in
     cc
 
-pub set_seen : {X : Type 0} (width : ℕ) (vs ks : X → List ℕ) (items : List X) (now : List (List Tri)) (i : ℕ) (x new : X) (m v kn : List ℕ) → map (λ r. row_in width (vs r) (ks r)) items ≡ now → i < length now → x ≡ get_or items i x → ((k : ℕ) → bit_in (vs new) k ≡ cond (bit_in m k) (bit_in v k) (bit_in (vs x) k)) → ((k : ℕ) → bit_in (ks new) k ≡ cond (bit_in m k) (bit_in kn k) (bit_in (ks x) k)) → map (λ r. row_in width (vs r) (ks r)) (set items i new) ≡ set now i (changed m v kn (row_of now i))
-set_seen width vs ks items now i x new m v kn e h same values known =
+pub set_seen : {X : Type 0} (width : ℕ) (vs ks : X → List ℕ) (items : List X) (now : List (List Tri)) (i : ℕ) (x new : X) (m v kn : List ℕ) → map (λ r. row_in width (vs r) (ks r)) items ≡ now → i < length now → x ≡ get_or items i x → IsSetTo width m v kn (vs x) (ks x) (vs new) (ks new) → map (λ r. row_in width (vs r) (ks r)) (set items i new) ≡ set now i (changed m v kn (row_of now i))
+set_seen width vs ks items now i x new m v kn e h same made =
     let row : changed m v kn (row_of now i) ≡ row_in width (vs new) (ks new) =
-    ap (changed m v kn) (row_seen width vs ks items now i x e h same) ∙ changed_row 0 width m v kn (vs x) (ks x) (vs new) (ks new) values known in
+    ap (changed m v kn) (row_seen width vs ks items now i x e h same) ∙ changed_row width 0 width m v kn (vs x) (ks x) (vs new) (ks new) (omega arith) made in
     map-set (λ r. row_in width (vs r) (ks r)) items i new ∙ ap (λ l. set l i (row_in width (vs new) (ks new))) e ∙ ap (λ r. set now i r) (sym row)
+
+-- the row at a place is packed
+pub packed_at : {X : Type 0} (width : ℕ) (vs ks : X → List ℕ) (items : List X) (now : List (List Tri)) (i : ℕ) (x : X) → map (λ r. row_in width (vs r) (ks r)) items ≡ now → i < length now → x ≡ get_or items i x → All (λ r. IsPacked width (vs r) (ks r)) items → IsPacked width (vs x) (ks x)
+packed_at width vs ks items now i x e h same all =
+    let count : length items ≡ length now = sym (simp length-map) ∙ ap length e in
+    subst (λ r. IsPacked width (vs r) (ks r)) (sym same) (All-get_or (λ r. IsPacked width (vs r) (ks r)) items i x (omega (arith, count)) all)
+
+-- the words of a row tell its bits
+pub word_tri : (width : ℕ) (values known : List ℕ) (k : ℕ) → IsPacked width values known → (bit_in values k ≡ is_one (tri_at (row_in width values known) k)) × (bit_in known k ≡ is_defined (tri_at (row_in width values known) k))
+word_tri width values known k is =
+    ⊎_elim
+    (λ inside.
+    let same : tri_at (row_in width values known) k ≡ tri_in values known k = tri_at-made (tri_in values known) width k inside in (
+      (is k).0 ∙ ap (λ t. t && is_one (tri_in values known k)) (lt-ltb k width inside) ∙ ap is_one (sym same),
+      (is k).1 ∙ ap (λ t. t && is_defined (tri_in values known k)) (lt-ltb k width inside) ∙ ap is_defined (sym same),
+    ))
+    (λ beyond.
+    let past : length (row_in width values known) ≤ k = omega (arith, length-row_in width values known, beyond) in
+    let none : tri_at (row_in width values known) k ≡ Any = tri_at_is (row_in width values known) k ∙ get_or_past (row_in width values known) k Any past in (
+      (is k).0 ∙ ap (λ t. t && is_one (tri_in values known k)) (le-ltb k width beyond) ∙ ap is_one (sym none),
+      (is k).1 ∙ ap (λ t. t && is_defined (tri_in values known k)) (le-ltb k width beyond) ∙ ap is_defined (sym none),
+    ))
+    (cases_lt k width)
+
+pub word_seen : {X : Type 0} (width : ℕ) (vs ks : X → List ℕ) (items : List X) (now : List (List Tri)) (i k : ℕ) (x : X) → map (λ r. row_in width (vs r) (ks r)) items ≡ now → i < length now → x ≡ get_or items i x → All (λ r. IsPacked width (vs r) (ks r)) items → (bit_in (vs x) k ≡ is_one (bit_of now i k)) × (bit_in (ks x) k ≡ is_defined (bit_of now i k))
+word_seen width vs ks items now i k x e h same all =
+    let row : row_of now i ≡ row_in width (vs x) (ks x) = row_seen width vs ks items now i x e h same in
+    let words = word_tri width (vs x) (ks x) k (packed_at width vs ks items now i x e h same all) in
+    (words.0 ∙ ap (λ r. is_one (tri_at r k)) (sym row), words.1 ∙ ap (λ r. is_defined (tri_at r k)) (sym row))
+
+-- the lanes below a width
+pub below_more : (old new : Bool) (at k : ℕ) → old ≡ nat_lt k at → new ≡ (nat_eq k at || old) → new ≡ nat_lt k (at + 1)
+below_more old new at k e n =
+    ⊎_elim
+    (λ same. n ∙ ap (λ t. t || old) (eq-eqb k at same) ∙ sym (lt-ltb k (at + 1) (omega arith)))
+    (λ order. ⊎_elim
+    (λ less. n ∙ ap (λ t. t || old) (ne_eqb k at (λ f. absurd (omega arith))) ∙ e ∙ lt-ltb k at less ∙ sym (lt-ltb k (at + 1) (omega arith)))
+    (λ more. n ∙ ap (λ t. t || old) (ne_eqb k at (λ f. absurd (omega arith))) ∙ e ∙ le-ltb k at (omega arith) ∙ sym (le-ltb k (at + 1) (omega arith)))
+    order)
+    (cases_order k at)
+
+pub no_lane : (count k : ℕ) → bit_in (replicate count 0) k ≡ nat_lt k 0
+no_lane count k = no_bit count k ∙ sym (le-ltb k 0 (omega arith))
 
 -- what a caller sees of a changed row
 pub length-changed_from : (at : ℕ) (m v kn : List ℕ) (row : List Tri) → length (changed_from at m v kn row) ≡ length row

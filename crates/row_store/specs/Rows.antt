@@ -1,5 +1,5 @@
 -- What packed limbs stand for as rows of bits that may be undefined, and what a change of some lanes makes of a row.
-use Rattle.std.specs.Prelude.{ℕ, ◌+◌, ◌*◌, ◌/◌, Bool, true, false, cond, List, [], ◌∷◌, length, map, slice_index_or}
+use Rattle.std.specs.Prelude.{◌≡◌, ℕ, ◌+◌, ◌*◌, ◌/◌, ◌&&◌, nat_lt, Bool, true, false, cond, List, [], ◌∷◌, length, map, slice_index_or}
 use Rattle.std.specs.List.{range_with_len}
 use Rattle.lib_core.specs.declared.library.Tri.{Tri}
 use Rattle.lib_core.specs.declared.library.Tri.TheVariants.{Zero, One, Any}
@@ -30,6 +30,10 @@ tri_in values known k = tri_by (bit_in values k) (bit_in known k)
 -- the low bits of limbs
 abbrev pub row_in : ℕ → List ℕ → List ℕ → List Tri
 row_in width values known = map (tri_in values known) (range_with_len 0 width)
+
+-- A value is 1 exactly where the row's bit is 1, and known exactly where the bit is defined. From the width on both are 0.
+abbrev pub IsPacked : ℕ → List ℕ → List ℕ → Type 0
+IsPacked width values known = (k : ℕ) → (bit_in values k ≡ (nat_lt k width && is_one (tri_in values known k))) × (bit_in known k ≡ (nat_lt k width && is_defined (tri_in values known k)))
 
 -- a row, and a bit of a row; past the end nothing
 abbrev pub row_of : List (List Tri) → ℕ → List Tri

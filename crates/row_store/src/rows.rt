@@ -1,5 +1,5 @@
 //! The rows, and how they are read and changed.
-ghost use Rattle.std.specs.Prelude.{◌≡◌, ℕ, ◌*◌, ◌%◌, ◌^◌, ◌<◌, ◌≤◌, ◌&&◌, ◌||◌, nat_eq, cond, length, IfOk, slice_set};
+ghost use Rattle.std.specs.Prelude.{◌≡◌, ℕ, ◌*◌, ◌%◌, ◌^◌, ◌<◌, ◌≤◌, ◌&&◌, ◌||◌, nat_eq, nat_lt, cond, length, IfOk, slice_set};
 ghost use Rattle.lib_core.specs.Rams.{tri_at};
 ghost use Rattle.row_store.specs.Limbs.{bit_in};
 ghost use Rattle.row_store.specs.Rows.{is_one, is_defined, tri_in, row_of, bit_of, rows_cut, changed};
@@ -36,19 +36,23 @@ impl<const LIMBS: usize> Row<LIMBS> {
 #[derive(Drop)]
 pub struct Rows<const LIMBS: usize> {
     width: u32,
+    /// The bits below the width.
+    inside: [u64; LIMBS],
     rows: Vec<Row<LIMBS>>,
 }
 
 impl<const LIMBS: usize> Model for Rows<LIMBS> {
-    ghost use Rattle.std.specs.Prelude.{List, ◌*◌, ◌^◌, ◌<◌, ◌≤◌, map};
+    ghost use Rattle.std.specs.Prelude.{◌≡◌, ℕ, List, ◌*◌, ◌^◌, ◌<◌, ◌≤◌, nat_lt, map};
+    ghost use Rattle.std.specs.List.{All};
     ghost use Rattle.lib_core.specs.declared.library.Tri.{Tri};
-    ghost use Rattle.row_store.specs.Rows.{row_in};
+    ghost use Rattle.row_store.specs.Limbs.{bit_in};
+    ghost use Rattle.row_store.specs.Rows.{row_in, IsPacked};
 
     ghost Value = { List (List Tri) };
 
     ghost view = { λ a. map (λ r. row_in a.width r.values r.known) a.rows.items };
 
-    ghost invariant = { λ a. (a.width ≤ 64 * LIMBS) × (64 * LIMBS < 2 ^ 32) };
+    ghost invariant = { λ a. (a.width ≤ 64 * LIMBS) × (64 * LIMBS < 2 ^ 32) × ((k : ℕ) → bit_in a.inside k ≡ nat_lt k a.width) × All (λ r. IsPacked a.width r.values r.known) a.rows.items };
 }
 
 impl<const LIMBS: usize> Rows<LIMBS> {
@@ -66,7 +70,12 @@ impl<const LIMBS: usize> Rows<LIMBS> {
         for row in 0..count {
             rows.push(packed(&init[row * size..row * size + size]))?;
         }
-        Ok(Rows { width, rows })
+        let inside = lanes_below(width);
+        Ok(Rows {
+            width,
+            inside,
+            rows,
+        })
     }
 
     /// A bit of a row. It takes no memory.
@@ -87,6 +96,24 @@ impl<const LIMBS: usize> Rows<LIMBS> {
         self.rows[row as usize]
     }
 
+    /// The values of a row: bit k mod 64 of limb k / 64 is 1 exactly where bit k of the row is 1, and 0 past its end.
+    /// It takes no memory.
+    pub fn values(&self, row: u32) -> &[u64; LIMBS]
+        requires { row < length self.now }
+        ensures { (k : ℕ) → bit_in result.now k ≡ is_one (bit_of self.now row k) }
+    {
+        &self.rows[row as usize].values
+    }
+
+    /// Which bits of a row are defined: bit k mod 64 of limb k / 64 is 1 exactly where bit k of the row is 0 or 1, and 0
+    /// past its end. It takes no memory.
+    pub fn known(&self, row: u32) -> &[u64; LIMBS]
+        requires { row < length self.now }
+        ensures { (k : ℕ) → bit_in result.now k ≡ is_defined (bit_of self.now row k) }
+    {
+        &self.rows[row as usize].known
+    }
+
     /// Sets the masked bits of a row to their values where these are known, and makes them undefined where not. Masked
     /// bits past the end of the row count for nothing. It takes no memory.
     pub fn set_lanes(
@@ -100,9 +127,11 @@ impl<const LIMBS: usize> Rows<LIMBS> {
         ensures { self.new ≡ slice_set self.old row (changed mask.now value.now known.now (row_of self.old row)) }
     {
         let old = self.rows[row as usize];
+        let mask = and(mask, &self.inside);
+        let value = and(value, known);
         self.rows[row as usize] = Row {
-            values: chosen(mask, value, &old.values),
-            known: chosen(mask, known, &old.known),
+            values: chosen(&mask, &value, &old.values),
+            known: chosen(&mask, known, &old.known),
         };
     }
 }
@@ -139,10 +168,23 @@ fn put_bit<const LIMBS: usize>(
     }
 }
 
+/// The bits below a width.
+fn lanes_below<const LIMBS: usize>(width: u32) -> [u64; LIMBS]
+    requires { width ≤ 64 * LIMBS }
+    ensures { (k : ℕ) → bit_in result k ≡ nat_lt k width }
+{
+    let mut lanes = [0u64; LIMBS];
+    for place in 0..width {
+        set_bit(&mut lanes, place as usize);
+    }
+    lanes
+}
+
 /// The row of these bits.
 fn packed<const LIMBS: usize>(bits: &[Tri]) -> Row<LIMBS>
     requires { length bits.now ≤ 64 * LIMBS }
-    ensures { (k : ℕ) → tri_in result.values result.known k ≡ tri_at bits.now k }
+    ensures values { (k : ℕ) → bit_in result.values k ≡ is_one (tri_at bits.now k) }
+    ensures known { (k : ℕ) → bit_in result.known k ≡ is_defined (tri_at bits.now k) }
 {
     let mut values = [0u64; LIMBS];
     let mut known = [0u64; LIMBS];

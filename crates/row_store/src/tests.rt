@@ -1,5 +1,8 @@
+ghost use Rattle.std.specs.Prelude.{◌≡◌, length, IfOk};
+
 use crate::{Bits, Rows};
-use lib_core::Tri;
+use lib_core::{Memory, Tri};
+use std::alloc::Global;
 use std::test::Fail;
 
 #[test]
@@ -29,5 +32,41 @@ fn bits_change(rt: HostRuntime) -> Result<(), Fail> {
     bits.put(3, false);
     assert!(rt; bits.len() == 100);
     assert!(rt; bits.get(70) && !bits.get(3));
+    Ok(())
+}
+
+/// 1000 bits alike.
+fn thousand(alloc: Global, bit: Tri) -> Result<Vec<Tri>, Memory>
+    ensures { IfOk result (λ bits. length bits.items ≡ 1000) }
+{
+    Ok(vec![in alloc; bit; 1000]?)
+}
+
+#[test]
+fn a_wide_row(rt: HostRuntime) -> Result<(), Fail> {
+    let mut lanes = [0u64; 16];
+    lanes[0] = 1 << 63;
+    lanes[1] = 1;
+    lanes[15] = 1 << 39;
+    let none = thousand(rt.alloc(), Tri::Any)?;
+    let mut rows = Rows::<16>::new(rt.alloc(), 1000, none.as_slice())?;
+    rows.set_lanes(0, &lanes, &lanes, &lanes);
+    assert!(rt; rows.get(0, 63) == Tri::One && rows.get(0, 64) == Tri::One);
+    assert!(rt; rows.get(0, 999) == Tri::One && rows.get(0, 998) == Tri::Any);
+    assert!(rt; *rows.values(0) == lanes);
+    assert!(rt; *rows.known(0) == lanes);
+    Ok(())
+}
+
+#[test]
+fn old_bits_stay(rt: HostRuntime) -> Result<(), Fail> {
+    let mut lanes = [0u64; 16];
+    lanes[1] = 1;
+    let zeros = thousand(rt.alloc(), Tri::Zero)?;
+    let mut rows = Rows::<16>::new(rt.alloc(), 1000, zeros.as_slice())?;
+    rows.set_lanes(0, &lanes, &lanes, &lanes);
+    assert!(rt; rows.get(0, 64) == Tri::One);
+    assert!(rt; rows.get(0, 63) == Tri::Zero && rows.get(0, 999) == Tri::Zero);
+    assert!(rt; rows.known(0)[0] == u64::MAX && rows.known(0)[15] == (1 << 40) - 1);
     Ok(())
 }
