@@ -2,7 +2,8 @@
 use Rattle.std.proofs.Common.{◌≡◌, ◌≢◌, ℕ, zero, suc, ◌+◌, ◌-◌, ◌*◌, ◌/◌, ◌%◌, ◌<◌, ◌≤◌, Bool, true, false, ◌&&◌, ◌||◌, cond, nat_eq, nat_lt, List, [], ◌∷◌, ◌++◌, map, length, get_or, take, drop, set, refl, sym, ap, subst, ◌∙◌, ⊎_elim, arith, eq-eqb}
 use Rattle.std.specs.List.{All, range_with_len, slice_range}
 use Rattle.std.proofs.lemmas.List.Elements.{All-get_or}
-use Rattle.std.proofs.lemmas.List.{get_or_past, get_or-set_same, get_or-set_other, get_or-map, map-set, map-append, get_or-take, get_or-drop, length-take}
+use Rattle.std.proofs.lemmas.List.{get_or_past, get_or-set_same, get_or-set_other, get_or-map, map-set, map-append, get_or-take, get_or-drop, length-take, length-set}
+use Rattle.std.proofs.Math.Nat.{div_self}
 use Rattle.std.proofs.Math.ListN.{length-map}
 use Rattle.std.proofs.lemmas.List.FromFn.{get_or-map-range_with_len, map-range_with_len_more, length-map-range_with_len}
 use Rattle.std.proofs.lemmas.Bool.{cases_lt, cases_order, ne_eqb, lt-ltb, le-ltb}
@@ -11,7 +12,7 @@ use Rattle.lib_core.specs.declared.library.Tri.{Tri}
 use Rattle.lib_core.specs.declared.library.Tri.TheVariants.{Zero, One, Any}
 use Rattle.lib_core.specs.Rams.{tri_at}
 use Rattle.row_store.specs.Limbs.{bit_in}
-use Rattle.row_store.specs.Rows.{is_one, is_defined, tri_by, tri_in, row_in, IsPacked, row_of, bit_of, row_cut, changed_from, changed}
+use Rattle.row_store.specs.Rows.{is_one, is_defined, tri_by, tri_in, row_in, IsPacked, row_of, bit_of, row_cut, rows_cut, changed_from, changed}
 use Rattle.row_store.proofs.Lanes.{bit_of_limb, limb_zero}
 
 pub tri_at_is : (xs : List Tri) (k : ℕ) → tri_at xs k ≡ get_or xs k Any
@@ -270,3 +271,17 @@ bit_of-set_same rows at row k h = ap (λ r. tri_at r k) (get_or-set_same rows at
 
 pub bit_of-set_other : (rows : List (List Tri)) (at : ℕ) (row : List Tri) (other k : ℕ) → other ≢ at → bit_of (set rows at row) other k ≡ bit_of rows other k
 bit_of-set_other rows at row other k h = ap (λ r. tri_at r k) (get_or-set_other rows at other row [] h)
+
+-- one row alone, and what it is after a change
+pub one_row : (init : List Tri) (width : ℕ) → length init ≡ width → 1 ≤ width → (length (rows_cut init width) ≡ 1) × (length (row_of (rows_cut init width) 0) ≡ width)
+one_row init width e h =
+    let count : length init / width ≡ 1 = ap (λ n. n / width) e ∙ div_self h in
+    let rows : length (rows_cut init width) ≡ 1 = length-map-range_with_len (row_cut init width) 0 (length init / width) ∙ count in
+    let first : row_of (rows_cut init width) 0 ≡ row_cut init width 0 = get_or-map-range_with_len (row_cut init width) 0 (length init / width) 0 0 [] (omega (arith, count)) refl in
+    (rows, ap length first ∙ length-map-range_with_len (λ k. tri_at init (0 * width + k)) 0 width)
+
+pub one_row_changed : (rows : List (List Tri)) (m v kn : List ℕ) (width : ℕ) → length rows ≡ 1 → length (row_of rows 0) ≡ width → (length (set rows 0 (changed m v kn (row_of rows 0))) ≡ 1) × (length (row_of (set rows 0 (changed m v kn (row_of rows 0))) 0) ≡ width)
+one_row_changed rows m v kn width e f = (
+  length-set rows 0 _ ∙ e,
+  ap length (get_or-set_same rows 0 (changed m v kn (row_of rows 0)) [] (omega (arith, e))) ∙ length-changed_from 0 m v kn (row_of rows 0) ∙ f,
+)

@@ -1,4 +1,5 @@
 ghost use Rattle.std.specs.Prelude.{◌≡◌, length, IfOk};
+ghost use Rattle.row_store.specs.Rows.{row_of};
 
 use crate::{Bits, Rows};
 use lib_core::{Memory, Tri};
@@ -35,11 +36,16 @@ fn bits_change(rt: HostRuntime) -> Result<(), Fail> {
     Ok(())
 }
 
-/// 1000 bits alike.
-fn thousand(alloc: Global, bit: Tri) -> Result<Vec<Tri>, Memory>
-    ensures { IfOk result (λ bits. length bits.items ≡ 1000) }
+/// A row of 1000 bits alike, in which the bits of these lanes are set.
+#[tactic(auto, using(crate::proofs::Tables::one_row, crate::proofs::Tables::one_row_changed))]
+fn thousand(alloc: Global, bit: Tri, lanes: &[u64; 16]) -> Result<Rows<16>, Memory>
+    ensures rows { IfOk result (λ rows. length rows ≡ 1) }
+    ensures bits { IfOk result (λ rows. length (row_of rows 0) ≡ 1000) }
 {
-    Ok(vec![in alloc; bit; 1000]?)
+    let bits = vec![in alloc; bit; 1000]?;
+    let mut rows = Rows::<16>::new(alloc, 1000, bits.as_slice())?;
+    rows.set_lanes(0, lanes, lanes, lanes);
+    Ok(rows)
 }
 
 #[test]
@@ -48,9 +54,7 @@ fn a_wide_row(rt: HostRuntime) -> Result<(), Fail> {
     lanes[0] = 1 << 63;
     lanes[1] = 1;
     lanes[15] = 1 << 39;
-    let none = thousand(rt.alloc(), Tri::Any)?;
-    let mut rows = Rows::<16>::new(rt.alloc(), 1000, none.as_slice())?;
-    rows.set_lanes(0, &lanes, &lanes, &lanes);
+    let rows = thousand(rt.alloc(), Tri::Any, &lanes)?;
     assert!(rt; rows.get(0, 63) == Tri::One && rows.get(0, 64) == Tri::One);
     assert!(rt; rows.get(0, 999) == Tri::One && rows.get(0, 998) == Tri::Any);
     assert!(rt; *rows.values(0) == lanes);
@@ -62,9 +66,7 @@ fn a_wide_row(rt: HostRuntime) -> Result<(), Fail> {
 fn old_bits_stay(rt: HostRuntime) -> Result<(), Fail> {
     let mut lanes = [0u64; 16];
     lanes[1] = 1;
-    let zeros = thousand(rt.alloc(), Tri::Zero)?;
-    let mut rows = Rows::<16>::new(rt.alloc(), 1000, zeros.as_slice())?;
-    rows.set_lanes(0, &lanes, &lanes, &lanes);
+    let rows = thousand(rt.alloc(), Tri::Zero, &lanes)?;
     assert!(rt; rows.get(0, 64) == Tri::One);
     assert!(rt; rows.get(0, 63) == Tri::Zero && rows.get(0, 999) == Tri::Zero);
     assert!(rt; rows.known(0)[0] == u64::MAX && rows.known(0)[15] == (1 << 40) - 1);
