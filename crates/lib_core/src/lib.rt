@@ -11,8 +11,6 @@ pub mod list;
 pub mod memory;
 pub mod name;
 pub mod picks;
-#[cfg(test)]
-mod tests;
 
 pub use cells::is_cell_name;
 pub use duplicate::Duplicate;
