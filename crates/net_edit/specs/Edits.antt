@@ -85,3 +85,13 @@ abbrev pub FitsNets : ℕ → Result (List ℕ) EditFault → Type 0
 FitsNets nets (Ok list) = nets ≤ 67108864
 FitsNets nets (Err (Full seen)) = (67108864 < nets) × (seen ≡ nets)
 FitsNets nets (Err Memory) = nets ≤ 67108864
+
+-- Why there is no room for so many nets in all: they are more than a module may have. Want of memory is free.
+abbrev pub IsOver : ℕ → EditFault → Type 0
+IsOver nets (Full seen) = (67108864 < nets) × (seen ≡ nets)
+IsOver nets Memory = Unit {0}
+
+-- the same, where nets were added one after the other, and were to be so many at most
+abbrev pub IsOverBy : ℕ → EditFault → Type 0
+IsOverBy most (Full seen) = (67108864 < seen) × (seen ≤ most)
+IsOverBy most Memory = Unit {0}

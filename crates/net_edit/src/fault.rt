@@ -1,4 +1,7 @@
 //! Why an edit gives no new nets.
+ghost use Rattle.std.specs.Prelude.{◌≡◌};
+ghost use Rattle.net_edit.specs.declared.fault.EditFault.TheVariants.{Memory as NoMemory};
+
 use lib_core::Memory;
 use std::alloc::AllocError;
 
@@ -11,12 +14,16 @@ pub enum EditFault {
 }
 
 impl From<Memory> for EditFault {
+    ghost from_gives = { λ _ fault. fault ≡ NoMemory };
+
     fn from(_memory: Memory) -> EditFault {
         EditFault::Memory
     }
 }
 
 impl From<AllocError> for EditFault {
+    ghost from_gives = { λ _ fault. fault ≡ NoMemory };
+
     fn from(_error: AllocError) -> EditFault {
         EditFault::Memory
     }

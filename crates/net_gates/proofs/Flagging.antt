@@ -1,11 +1,13 @@
 -- A register, and a choice by what it shows.
-use Rattle.std.proofs.Common.{◌≡◌, ℕ, zero, suc, ◌<◌, ◌≤◌, List, [], ◌∷◌, ◌++◌, length, get_or, Some, sym, ap, ◌∙◌, subst, arith}
+use Rattle.std.proofs.Common.{◌≡◌, ℕ, zero, suc, ◌+◌, ◌<◌, ◌≤◌, List, [], ◌∷◌, ◌++◌, length, get_or, Some, sym, ap, ◌∙◌, subst, arith}
 use Rattle.std.specs.Prelude.{slice_get}
 use Rattle.net_core.specs.declared.bits.Bit.{Bit}
 use Rattle.net_core.specs.declared.bits.Bit.TheVariants.{Zero, Net}
 use Rattle.net_core.specs.declared.modules.Module.{Module}
 use Rattle.net_core.specs.Values.{Agrees}
-use Rattle.net_edit.specs.Edits.{Editing, bits_from}
+use Rattle.net_edit.specs.declared.fault.EditFault.{EditFault}
+use Rattle.net_edit.specs.declared.fault.EditFault.TheVariants.{Full, Memory}
+use Rattle.net_edit.specs.Edits.{Editing, bits_from, IsOver, IsOverBy}
 use Rattle.net_edit.specs.Ranks.{height, BitsBelow}
 use Rattle.net_edit.proofs.Heights.{height_joined}
 use Rattle.net_gates.specs.declared.flags.FlagPins.{FlagPins}
@@ -62,3 +64,10 @@ module _ (old : Editing) (flag : FlagPins) (low high : List Bit) (ready : IsRead
 -- the bit that a register of one bit shows
 pub select_is : (n : ℕ) (now shown : List Bit) (pins : RegPins) (flag : FlagPins) → now ≡ shown → shown ≡ bits_from n (length pins.d) → pins ≡ flag_pins flag → get_or now 0 Zero ≡ Net n
 select_is n now shown pins flag a b c = ap (λ l. get_or l 0 Zero) (a ∙ b ∙ ap (λ (p : RegPins). bits_from n (length p.d)) c)
+
+-- no room behind the flag is no room for both
+pub over_flag : (f : EditFault) (old mid len : ℕ) (p : RegPins) (flag : FlagPins) → p ≡ flag_pins flag → mid ≡ old + length p.d → IsOver (mid + len) f → IsOverBy (old + (1 + len)) f
+over_flag (Full seen) old mid len p flag e more over =
+    let one : length p.d ≡ 1 = ap (λ (q : RegPins). length q.d) e in
+    (omega (arith, over.0, over.1), omega (arith, over.1, more, one))
+over_flag Memory old mid len p flag e more over = over

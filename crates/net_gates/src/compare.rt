@@ -1,5 +1,6 @@
 //! Comparisons with constants, and choices between lists.
-ghost use Rattle.std.specs.Prelude.{◌≡◌, ◌+◌, ◌^◌, ◌<◌, ◌∷◌, ◌++◌, [], length, IfOk};
+ghost use Rattle.std.specs.Prelude.{◌≡◌, ◌+◌, ◌^◌, ◌<◌, ◌∷◌, ◌++◌, [], length, IfOk, IfErr};
+ghost use Rattle.net_edit.specs.Edits.{IsOver};
 ghost use Rattle.net_gates.specs.Adds.{Adds, AddsBit, IsReady};
 ghost use Rattle.net_gates.specs.Meanings as spec;
 
@@ -21,6 +22,7 @@ pub fn equal_const(
     requires { IsReady edit.old bits.now }
     ensures adds { IfOk result (λ y. AddsBit edit.old edit.new bits.now y (spec.equals bits.now number)) }
     ensures nets { IfOk result (λ _. edit.new.netlist.nets ≡ edit.old.netlist.nets + 1) }
+    ensures full { IfErr result (IsOver (edit.old.netlist.nets + 1)) }
 {
     let left = list_of(alloc, bits)?;
     let right = constant(alloc, number)?;
@@ -39,6 +41,7 @@ pub fn less_const(
     requires { IsReady edit.old bits.now }
     ensures adds { IfOk result (λ y. AddsBit edit.old edit.new bits.now y (spec.is_below bits.now number)) }
     ensures nets { IfOk result (λ _. edit.new.netlist.nets ≡ edit.old.netlist.nets + 1) }
+    ensures full { IfErr result (IsOver (edit.old.netlist.nets + 1)) }
 {
     let left = list_of(alloc, bits)?;
     let right = constant(alloc, number)?;
@@ -60,6 +63,7 @@ pub fn mux(
     requires few { length low.now < 2 ^ 32 }
     ensures adds { IfOk result (λ ys. Adds edit.old edit.new (low.now ++ high.now ++ select ∷ []) ys (spec.either_list select low.now high.now)) }
     ensures nets { IfOk result (λ _. edit.new.netlist.nets ≡ edit.old.netlist.nets + length low.now) }
+    ensures full { IfErr result (IsOver (edit.old.netlist.nets + length low.now)) }
 {
     let width = low.len() as u32;
     let left = list_of(alloc, low)?;

@@ -1,5 +1,6 @@
 //! A flag that chooses between lists.
-ghost use Rattle.std.specs.Prelude.{◌≡◌, ◌^◌, ◌<◌, ◌∷◌, ◌++◌, [], length, IfOk};
+ghost use Rattle.std.specs.Prelude.{◌≡◌, ◌+◌, ◌^◌, ◌<◌, ◌∷◌, ◌++◌, [], length, IfOk, IfErr};
+ghost use Rattle.net_edit.specs.Edits.{IsOverBy};
 ghost use Rattle.net_edit.specs.Laws.{IsKnownClock};
 ghost use Rattle.net_gates.specs.Adds.{IsReady};
 ghost use Rattle.net_gates.specs.Flags.{flag_pins, AddsFlag};
@@ -45,6 +46,7 @@ fn flag_register(alloc: Global, flag: FlagPins) -> Result<RegPins, Memory>
 }
 
 /// A new flag, and the bits of the second list while it is 1, else those of the first.
+#[tactic(auto, using(crate::proofs::Flagging::over_flag))]
 pub fn flag_mux(
     alloc: Global,
     edit: &mut Edit,
@@ -56,7 +58,8 @@ pub fn flag_mux(
     requires known { IsKnownClock edit.old.netlist flag.clock }
     requires even { length low.now ≡ length high.now }
     requires few { length low.now < 2 ^ 32 }
-    ensures { IfOk result (λ ys. AddsFlag edit.old edit.new flag low.now high.now ys) }
+    ensures adds { IfOk result (λ ys. AddsFlag edit.old edit.new flag low.now high.now ys) }
+    ensures full { IfErr result (IsOverBy (edit.old.netlist.nets + (1 + length low.now))) }
 {
     let pins = flag_register(alloc, flag)?;
     let shown = register(alloc, edit, pins)?;

@@ -1,6 +1,7 @@
 //! Gates of one bit.
-ghost use Rattle.std.specs.Prelude.{◌≡◌, ◌+◌, ◌∷◌, [], not, IfOk};
+ghost use Rattle.std.specs.Prelude.{◌≡◌, ◌+◌, ◌∷◌, [], not, IfOk, IfErr};
 ghost use Rattle.net_core.specs.Values.{value_of};
+ghost use Rattle.net_edit.specs.Edits.{IsOver};
 ghost use Rattle.net_gates.specs.Adds.{AddsBit, IsReady};
 ghost use Rattle.net_gates.specs.Meanings as spec;
 
@@ -16,6 +17,7 @@ pub fn not_gate(alloc: Global, edit: &mut Edit, a: Bit) -> Result<Bit, EditFault
     requires { IsReady edit.old (a ∷ []) }
     ensures adds { IfOk result (λ y. AddsBit edit.old edit.new (a ∷ []) y (λ u. not (value_of u a))) }
     ensures nets { IfOk result (λ _. edit.new.netlist.nets ≡ edit.old.netlist.nets + 1) }
+    ensures full { IfErr result (IsOver (edit.old.netlist.nets + 1)) }
 {
     let operand = one_bit(alloc, a)?;
     let y = gate(alloc, edit, CombKind::Not, operand, no_bits(alloc))?;
@@ -28,6 +30,7 @@ pub fn and_gate(alloc: Global, edit: &mut Edit, a: Bit, b: Bit) -> Result<Bit, E
     requires { IsReady edit.old (a ∷ b ∷ []) }
     ensures adds { IfOk result (λ y. AddsBit edit.old edit.new (a ∷ b ∷ []) y (spec.both_of a b)) }
     ensures nets { IfOk result (λ _. edit.new.netlist.nets ≡ edit.old.netlist.nets + 1) }
+    ensures full { IfErr result (IsOver (edit.old.netlist.nets + 1)) }
 {
     let left = one_bit(alloc, a)?;
     let right = one_bit(alloc, b)?;
@@ -41,6 +44,7 @@ pub fn or_gate(alloc: Global, edit: &mut Edit, a: Bit, b: Bit) -> Result<Bit, Ed
     requires { IsReady edit.old (a ∷ b ∷ []) }
     ensures adds { IfOk result (λ y. AddsBit edit.old edit.new (a ∷ b ∷ []) y (spec.either_of a b)) }
     ensures nets { IfOk result (λ _. edit.new.netlist.nets ≡ edit.old.netlist.nets + 1) }
+    ensures full { IfErr result (IsOver (edit.old.netlist.nets + 1)) }
 {
     let left = one_bit(alloc, a)?;
     let right = one_bit(alloc, b)?;
@@ -54,6 +58,7 @@ pub fn xor_gate(alloc: Global, edit: &mut Edit, a: Bit, b: Bit) -> Result<Bit, E
     requires { IsReady edit.old (a ∷ b ∷ []) }
     ensures adds { IfOk result (λ y. AddsBit edit.old edit.new (a ∷ b ∷ []) y (spec.differ a b)) }
     ensures nets { IfOk result (λ _. edit.new.netlist.nets ≡ edit.old.netlist.nets + 1) }
+    ensures full { IfErr result (IsOver (edit.old.netlist.nets + 1)) }
 {
     let left = one_bit(alloc, a)?;
     let right = one_bit(alloc, b)?;
@@ -67,6 +72,7 @@ pub fn and_all(alloc: Global, edit: &mut Edit, bits: &[Bit]) -> Result<Bit, Edit
     requires { IsReady edit.old bits.now }
     ensures adds { IfOk result (λ y. AddsBit edit.old edit.new bits.now y (spec.all_of bits.now)) }
     ensures nets { IfOk result (λ _. edit.new.netlist.nets ≡ edit.old.netlist.nets + 1) }
+    ensures full { IfErr result (IsOver (edit.old.netlist.nets + 1)) }
 {
     let operand = list_of(alloc, bits)?;
     let y = gate(alloc, edit, CombKind::ReduceAnd, operand, no_bits(alloc))?;
@@ -79,6 +85,7 @@ pub fn or_all(alloc: Global, edit: &mut Edit, bits: &[Bit]) -> Result<Bit, EditF
     requires { IsReady edit.old bits.now }
     ensures adds { IfOk result (λ y. AddsBit edit.old edit.new bits.now y (spec.some_of bits.now)) }
     ensures nets { IfOk result (λ _. edit.new.netlist.nets ≡ edit.old.netlist.nets + 1) }
+    ensures full { IfErr result (IsOver (edit.old.netlist.nets + 1)) }
 {
     let operand = list_of(alloc, bits)?;
     let y = gate(alloc, edit, CombKind::ReduceOr, operand, no_bits(alloc))?;

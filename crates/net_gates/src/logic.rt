@@ -1,6 +1,6 @@
 //! One logic cell over new nets.
-ghost use Rattle.std.specs.Prelude.{◌≡◌, ◌∷◌, [], IfOk};
-ghost use Rattle.net_edit.specs.Edits.{as_bits, bits_from};
+ghost use Rattle.std.specs.Prelude.{◌≡◌, ◌+◌, ◌∷◌, [], IfOk, IfErr};
+ghost use Rattle.net_edit.specs.Edits.{as_bits, bits_from, IsOver};
 ghost use Rattle.net_gates.specs.Cells.{AddsLogic};
 
 use lib_core::{List, Memory, Name};
@@ -58,6 +58,7 @@ pub(crate) fn logic(
 ) -> Result<List<Bit>, EditFault>
     ensures bits { IfOk result (λ bits. bits ≡ bits_from edit.old.netlist.nets width) }
     ensures cell { IfOk result (λ _. AddsLogic edit.old edit.new kind left right select width) }
+    ensures full { IfErr result (IsOver (edit.old.netlist.nets + width)) }
 {
     let y = edit.fresh(width)?;
     let bits = net_bits(alloc, y.as_slice())?;
@@ -84,6 +85,7 @@ pub(crate) fn gate(
 ) -> Result<Bit, EditFault>
     ensures net { IfOk result (λ y. y ≡ Bit.Net edit.old.netlist.nets) }
     ensures cell { IfOk result (λ _. AddsLogic edit.old edit.new kind left right [] 1) }
+    ensures full { IfErr result (IsOver (edit.old.netlist.nets + 1)) }
 {
     let bits = logic(alloc, edit, kind, left, right, no_bits(alloc), 1)?;
     Ok(bits.as_slice()[0])

@@ -1,5 +1,6 @@
 //! Addresses in a range.
-ghost use Rattle.std.specs.Prelude.{◌≡◌, ◌+◌, IfOk};
+ghost use Rattle.std.specs.Prelude.{◌≡◌, ◌+◌, IfOk, IfErr};
+ghost use Rattle.net_edit.specs.Edits.{IsOverBy};
 ghost use Rattle.net_gates.specs.Adds.{AddsBit, IsReady};
 ghost use Rattle.net_gates.specs.Meanings as spec;
 
@@ -19,7 +20,8 @@ pub fn in_range(
     end: u32,
 ) -> Result<Bit, EditFault>
     requires { IsReady edit.old addr.now }
-    ensures { IfOk result (λ y. AddsBit edit.old edit.new addr.now y (spec.is_within addr.now first end)) }
+    ensures adds { IfOk result (λ y. AddsBit edit.old edit.new addr.now y (spec.is_within addr.now first end)) }
+    ensures full { IfErr result (IsOverBy (edit.old.netlist.nets + 4)) }
 {
     let below = less_const(alloc, edit, addr, first)?;
     let reached = not_gate(alloc, edit, below)?;

@@ -1,6 +1,6 @@
 //! Registers with an enable and a reset.
-ghost use Rattle.std.specs.Prelude.{◌≡◌, ◌∷◌, ◌^◌, ◌<◌, length, IfOk};
-ghost use Rattle.net_edit.specs.Edits.{bits_from};
+ghost use Rattle.std.specs.Prelude.{◌≡◌, ◌+◌, ◌∷◌, ◌^◌, ◌<◌, length, IfOk, IfErr};
+ghost use Rattle.net_edit.specs.Edits.{bits_from, IsOver};
 ghost use Rattle.net_edit.specs.Laws.{IsKnownClock};
 ghost use Rattle.net_gates.specs.Adds.{IsReady};
 ghost use Rattle.net_gates.specs.Registers.{AddsRegister};
@@ -30,6 +30,8 @@ pub fn register(alloc: Global, edit: &mut Edit, pins: RegPins) -> Result<List<Bi
     requires few { length pins.d < 2 ^ 32 }
     ensures bits { IfOk result (λ ys. ys ≡ bits_from edit.old.netlist.nets (length pins.d)) }
     ensures adds { IfOk result (λ _. AddsRegister edit.old edit.new pins) }
+    ensures nets { IfOk result (λ _. edit.new.netlist.nets ≡ edit.old.netlist.nets + length pins.d) }
+    ensures full { IfErr result (IsOver (edit.old.netlist.nets + length pins.d)) }
 {
     let q = edit.fresh(pins.d.as_slice().len() as u32)?;
     let bits = net_bits(alloc, q.as_slice())?;

@@ -16,8 +16,8 @@ mux-requires-clause-ready c =
     let one = subst (AddsRegister old mid) c.in_ok-pins.ensures c.in_ok-shown.ensures.adds in
     mux_ready old c.args.flag c.args.low.now c.args.high.now c.requires.ready mid mid [] one _ (select_is old.netlist.nets c.as_slice.result.now c.in_ok-shown.shown c.in_ok-pins.pins c.args.flag c.as_slice.ensures c.in_ok-shown.ensures.bits c.in_ok-pins.ensures)
 
-pub returns : goal.returns
-returns c =
+pub returns-clause-adds : goal.returns-clause-adds
+returns-clause-adds c =
     let old = c.args.edit.now in
     let mid = c.register.new.edit in
     let one = subst (AddsRegister old mid) c.in_ok-pins.ensures c.in_ok-shown.ensures.adds in
