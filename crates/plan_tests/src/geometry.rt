@@ -24,40 +24,10 @@ fn four_enables(rt: HostRuntime) -> Result<(), Fail> {
     let alloc = rt.alloc();
     let variant = variant(alloc, 9, &[36], Some(9), 64, none(alloc))?;
     assert!(rt; variant_within(&variant));
-    let enables = [
-        Bit::Net(0),
-        Bit::Net(0),
-        Bit::Net(0),
-        Bit::Net(0),
-        Bit::Net(0),
-        Bit::Net(0),
-        Bit::Net(0),
-        Bit::Net(0),
-        Bit::Net(1),
-        Bit::Net(1),
-        Bit::Net(1),
-        Bit::Net(1),
-        Bit::Net(1),
-        Bit::Net(1),
-        Bit::Net(1),
-        Bit::Net(1),
-        Bit::Net(2),
-        Bit::Net(2),
-        Bit::Net(2),
-        Bit::Net(2),
-        Bit::Net(2),
-        Bit::Net(2),
-        Bit::Net(2),
-        Bit::Net(2),
-        Bit::One,
-        Bit::One,
-        Bit::One,
-        Bit::One,
-        Bit::One,
-        Bit::One,
-        Bit::One,
-        Bit::One,
-    ];
+    let mut enables = [Bit::One; 32];
+    enables[..8].fill(Bit::Net(0));
+    enables[8..16].fill(Bit::Net(1));
+    enables[16..24].fill(Bit::Net(2));
     let write = write(alloc, list(alloc, &enables)?, none(alloc));
     assert_eq!(rt; lane_runs(&write), 4);
     let size = Size {

@@ -1,8 +1,7 @@
 //! What a read sees of a write, and what of it is emulated.
 ghost use Rattle.std.specs.Prelude.{◌<◌, ◌^◌, length};
 
-use crate::samples;
-use crate::samples::{RISE, groups, list, none, one_port};
+use crate::samples::{self, RISE, groups, list, none, one_port};
 use fit_pairs::pairs::{native, pair_need};
 use fit_pairs::{
     Need, PlacedRead, PlacedWrite, Relation, bypasses, fits_edge, one_domain, outside_parts, reads,
@@ -33,10 +32,8 @@ fn read(alloc: Global, trans: bool, coll: bool) -> Result<RdPort, Memory> {
 }
 
 /// A write at the rising edge.
-fn write(alloc: Global, enables: &[Bit], prio: &[bool]) -> Result<WrPort, Memory> {
-    let mut port = samples::write(alloc, list(alloc, enables)?, none(alloc));
-    port.prio = list(alloc, prio)?;
-    Ok(port)
+fn write(alloc: Global, enables: &[Bit]) -> Result<WrPort, Memory> {
+    Ok(samples::write(alloc, list(alloc, enables)?, none(alloc)))
 }
 
 /// Read 0 in a group of the RAM.
@@ -57,7 +54,7 @@ fn placed<'a>(
 }
 
 /// What a read in group 0 and a write in group 1 show and need.
-fn met(
+fn relation(
     variant: &Variant,
     quiet: &[Pair],
     port: &RdPort,
@@ -72,6 +69,18 @@ fn met(
         kind,
     };
     Some((native(&read, &write), pair_need(quiet, &read, &write)))
+}
+
+/// What a read with these masks and a write of a plain RAM show and need.
+fn met(
+    alloc: Global,
+    masks: (bool, bool),
+    quiet: &[Pair],
+) -> Result<Option<(Relation, Need)>, Memory> {
+    let variant = two_groups(alloc, PortKind::Sr)?;
+    let write = write(alloc, &[Bit::Net(1)])?;
+    let read = read(alloc, masks.0, masks.1)?;
+    Ok(relation(&variant, quiet, &read, &write))
 }
 
 #[test]
@@ -91,66 +100,76 @@ fn ports_and_clocks(rt: HostRuntime) -> Result<(), Fail> {
 #[test]
 fn pairs_of_a_plain_ram(rt: HostRuntime) -> Result<(), Fail> {
     let alloc = rt.alloc();
-    let variant = two_groups(alloc, PortKind::Sr)?;
-    let write = write(alloc, &[Bit::Net(1)], &[false])?;
-    let old = read(alloc, false, false)?;
-    let new = read(alloc, true, false)?;
-    let any = read(alloc, false, true)?;
     let quiet = [Pair { read: 0, write: 0 }];
     assert_eq!(rt;
-        met(&variant, &[], &old, &write),
+        met(alloc, (false, false), &[])?,
         Some((Relation::Any, Need::ReadFirst))
     );
     assert_eq!(rt;
-        met(&variant, &[], &new, &write),
+        met(alloc, (true, false), &[])?,
         Some((Relation::Any, Need::Bypass))
     );
     assert_eq!(rt;
-        met(&variant, &[], &any, &write),
+        met(alloc, (false, true), &[])?,
         Some((Relation::Any, Need::Nothing))
     );
     assert_eq!(rt;
-        met(&variant, &quiet, &old, &write),
+        met(alloc, (false, false), &quiet)?,
         Some((Relation::Any, Need::Nothing))
     );
     Ok(())
+}
+
+/// How many registers stand outside for a read in group 0, how many pairs go round the RAM, and whether a
+/// write in group 1 has to come after it.
+fn outside(variant: &Variant, port: &RdPort, writes: &[WrPort]) -> Option<(u32, u32, bool)> {
+    let read = placed(variant, port, ReadPlace::Group(0), 0)?;
+    Some((
+        outside_parts(&read),
+        bypasses(false, &[], variant, writes, &[1], &read),
+        some_need(Need::ReadFirst, &[], variant, writes, &[1], &read),
+    ))
 }
 
 #[test]
 fn a_register_outside(rt: HostRuntime) -> Result<(), Fail> {
     let alloc = rt.alloc();
     let variant = two_groups(alloc, PortKind::Ar)?;
-    let write = [write(alloc, &[Bit::Net(1)], &[false])?];
     let port = read(alloc, true, false)?;
-    let parts = placed(&variant, &port, ReadPlace::Group(0), 0).map(|read| {
-        (
-            outside_parts(&read),
-            bypasses(false, &[], &variant, &write, &[1], &read),
-            some_need(Need::ReadFirst, &[], &variant, &write, &[1], &read),
-        )
-    });
-    assert_eq!(rt; parts, Some((1, 1, false)));
+    let writes = [write(alloc, &[Bit::Net(1)])?];
+    assert_eq!(rt; outside(&variant, &port, &writes), Some((1, 1, false)));
     Ok(())
 }
 
 /// Whether a read at the name of write 0 has what it needs.
-fn ride(variant: &Variant, port: &RdPort, writes: &[WrPort], fold: u32) -> Option<bool> {
+fn rides_well(variant: &Variant, port: &RdPort, writes: &[WrPort], fold: u32) -> Option<bool> {
     let read = placed(variant, port, ReadPlace::Ride(0), 0)?;
     Some(ride_met(variant, writes, &[0], fold, &read))
+}
+
+/// Whether a read of a RAM with one port, which shows this while it writes, has what it needs at the name
+/// of a write with these enables.
+fn ride(
+    alloc: Global,
+    own: OwnWrite,
+    enables: [Bit; 2],
+    fold: u32,
+) -> Result<Option<bool>, Memory> {
+    let variant = one_group(alloc, own)?;
+    let port = read(alloc, false, false)?;
+    let writes = [write(alloc, &enables)?];
+    Ok(rides_well(&variant, &port, &writes, fold))
 }
 
 #[test]
 fn rides(rt: HostRuntime) -> Result<(), Fail> {
     let alloc = rt.alloc();
-    let variant = one_group(alloc, OwnWrite::NoChange)?;
-    let port = read(alloc, false, false)?;
-    let one = [write(alloc, &[Bit::Net(1), Bit::Net(1)], &[false])?];
-    let two = [write(alloc, &[Bit::Net(1), Bit::Net(2)], &[false])?];
-    assert_eq!(rt; ride(&variant, &port, &one, 0), Some(true));
-    assert_eq!(rt; ride(&variant, &port, &one, 1), Some(false));
-    assert_eq!(rt; ride(&variant, &port, &two, 0), Some(false));
-    let old = one_group(alloc, OwnWrite::Old)?;
-    assert_eq!(rt; ride(&old, &port, &two, 1), Some(true));
+    let one = [Bit::Net(1), Bit::Net(1)];
+    let two = [Bit::Net(1), Bit::Net(2)];
+    assert_eq!(rt; ride(alloc, OwnWrite::NoChange, one, 0)?, Some(true));
+    assert_eq!(rt; ride(alloc, OwnWrite::NoChange, one, 1)?, Some(false));
+    assert_eq!(rt; ride(alloc, OwnWrite::NoChange, two, 0)?, Some(false));
+    assert_eq!(rt; ride(alloc, OwnWrite::Old, two, 1)?, Some(true));
     Ok(())
 }
 
@@ -172,8 +191,9 @@ fn even(variant: &Variant, writes: &[WrPort], groups: &[u32]) -> Option<bool>
 fn priorities(rt: HostRuntime) -> Result<(), Fail> {
     let alloc = rt.alloc();
     let variant = two_groups(alloc, PortKind::Sr)?;
-    let low = write(alloc, &[Bit::Net(1), Bit::Net(1)], &[false, false])?;
-    let high = write(alloc, &[Bit::Net(2), Bit::Net(3)], &[true, false])?;
+    let low = write(alloc, &[Bit::Net(1), Bit::Net(1)])?;
+    let mut high = write(alloc, &[Bit::Net(2), Bit::Net(3)])?;
+    high.prio = list(alloc, &[true, false])?;
     let both = [low, high];
     assert_eq!(rt; even(&variant, &both, &[1, 1]), Some(false));
     assert_eq!(rt; even(&variant, &both, &[1]), Some(true));
