@@ -1,9 +1,42 @@
 //! Where bits lie in RAM cells.
+ghost use Rattle.std.specs.Prelude.{◌≡◌, ◌<◌, ◌^◌, length, IfOk};
+
 use crate::samples::{Size, list, memory, none, one, variant, write};
 use fit_rules::{mem_within, variant_within};
 use geom_core::{BitPlace, Geometry, bit_place, lane_runs, layout, split};
-use net_core::Bit;
+use lib_core::Memory;
+use net_core::{Bit, MemJob, WrPort};
+use std::alloc::Global;
 use std::test::Fail;
+
+/// A write with these enables.
+fn enabled(alloc: Global, enables: &[Bit]) -> Result<WrPort, Memory>
+    ensures { IfOk result (λ port. port.en ≡ enables.now) }
+{
+    let en = list(alloc, enables)?;
+    Ok(write(alloc, en, none(alloc)))
+}
+
+/// How many runs of equal bits enables have.
+fn runs(alloc: Global, enables: &[Bit]) -> Result<u32, Memory>
+    requires { length enables.now < 2 ^ 32 }
+{
+    let port = enabled(alloc, enables)?;
+    Ok(lane_runs(&port))
+}
+
+/// A memory of 512 words of this width, with one write.
+fn written(alloc: Global, width: u32, enables: &[Bit]) -> Result<MemJob, Memory>
+    ensures { IfOk result (λ job. job.mem.width ≡ width) }
+{
+    let size = Size {
+        words: 512,
+        width,
+        abits: 9,
+    };
+    let writes = one(alloc, enabled(alloc, enables)?)?;
+    Ok(memory(alloc, size, none(alloc), writes))
+}
 
 #[test]
 fn words_in_wider_words(rt: HostRuntime) -> Result<(), Fail> {
@@ -28,14 +61,8 @@ fn four_enables(rt: HostRuntime) -> Result<(), Fail> {
     enables[..8].fill(Bit::Net(0));
     enables[8..16].fill(Bit::Net(1));
     enables[16..24].fill(Bit::Net(2));
-    let write = write(alloc, list(alloc, &enables)?, none(alloc));
-    assert_eq!(rt; lane_runs(&write), 4);
-    let size = Size {
-        words: 512,
-        width: 32,
-        abits: 9,
-    };
-    let job = memory(alloc, size, none(alloc), one(alloc, write)?);
+    assert_eq!(rt; runs(alloc, &enables)?, 4);
+    let job = written(alloc, 32, &enables)?;
     assert!(rt; mem_within(&job.mem));
     let spread = layout(&job.mem, &variant, 0, 0);
     assert_eq!(rt; (spread.unit, spread.units, spread.columns), (9, 4, 1));
@@ -58,13 +85,7 @@ fn three_columns(rt: HostRuntime) -> Result<(), Fail> {
     let alloc = rt.alloc();
     let variant = variant(alloc, 11, &[2, 4, 8, 16], None, 64, none(alloc))?;
     assert!(rt; variant_within(&variant));
-    let write = write(alloc, list(alloc, &[Bit::One; 20])?, none(alloc));
-    let size = Size {
-        words: 512,
-        width: 20,
-        abits: 9,
-    };
-    let job = memory(alloc, size, none(alloc), one(alloc, write)?);
+    let job = written(alloc, 20, &[Bit::One; 20])?;
     assert!(rt; mem_within(&job.mem));
     let spread = layout(&job.mem, &variant, 0, 2);
     assert_eq!(rt; (spread.unit, spread.units, spread.columns), (8, 3, 3));

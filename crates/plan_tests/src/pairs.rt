@@ -187,14 +187,19 @@ fn even(variant: &Variant, writes: &[WrPort], groups: &[u32]) -> Option<bool>
     Some(stands_even(variant, writes, groups, &lower))
 }
 
+/// Two writes of two bits, of which the later has priority.
+fn low_and_high(alloc: Global) -> Result<[WrPort; 2], Memory> {
+    let low = write(alloc, &[Bit::Net(1), Bit::Net(1)])?;
+    let mut high = write(alloc, &[Bit::Net(2), Bit::Net(3)])?;
+    high.prio = list(alloc, &[true, false])?;
+    Ok([low, high])
+}
+
 #[test]
 fn priorities(rt: HostRuntime) -> Result<(), Fail> {
     let alloc = rt.alloc();
     let variant = two_groups(alloc, PortKind::Sr)?;
-    let low = write(alloc, &[Bit::Net(1), Bit::Net(1)])?;
-    let mut high = write(alloc, &[Bit::Net(2), Bit::Net(3)])?;
-    high.prio = list(alloc, &[true, false])?;
-    let both = [low, high];
+    let both = low_and_high(alloc)?;
     assert_eq!(rt; even(&variant, &both, &[1, 1]), Some(false));
     assert_eq!(rt; even(&variant, &both, &[1]), Some(true));
     Ok(())

@@ -106,13 +106,19 @@ fn two_jobs_at_once(rt: HostRuntime) -> Result<(), Fail> {
     Ok(())
 }
 
-#[test]
-fn in_their_order(rt: HostRuntime) -> Result<(), Fail> {
-    let alloc = rt.alloc();
+/// Five memories, of which the last asks for a block.
+fn five_jobs(alloc: Global) -> Result<List<MemJob>, Memory> {
     let mut jobs = memories(alloc, &[3, 1, 4, 2])?;
     let mut refused = bits(alloc, 5);
     refused.mem.attrs = asks_for_block(alloc)?;
     jobs.push(refused)?;
+    Ok(jobs)
+}
+
+#[test]
+fn in_their_order(rt: HostRuntime) -> Result<(), Fail> {
+    let alloc = rt.alloc();
+    let jobs = five_jobs(alloc)?;
     let one = points(&rt, alloc, 1, &jobs, &OpenGate)?;
     let many = points(&rt, alloc, 3, &jobs, &OpenGate)?;
     assert_eq!(rt;

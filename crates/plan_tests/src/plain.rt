@@ -1,7 +1,6 @@
 //! The best plan among plain candidates.
-use crate::samples::{Size, at_once, empty, groups, list, one, ram, variant};
+use crate::samples::{Size, at_once, empty, groups, list, one, outcome, ram, variant};
 use fit_rules::{Plan, library_within, mem_within};
-use geom_core::Candidate;
 use lib_core::{EdgeKind, Fill, Library, Memory, PortKind, RamClass, Tri, Variant};
 use net_core::{MemJob, Style};
 use plain_plan::least_plain;
@@ -41,34 +40,31 @@ fn library(alloc: Global, count: u32) -> Result<Library, Memory> {
     Ok(lib)
 }
 
-/// The RAM of a plan, and its points.
-fn ram_of(plan: &Option<Plan>) -> Option<(u32, u64)> {
-    match plan {
-        None => None,
-        Some(plan) => match &plan.candidate {
-            Candidate::Registers => None,
-            Candidate::Ram(choice) => Some((choice.ram, plan.points)),
-        },
+/// The best plan, where the memory and the library are within their limits.
+fn plan(alloc: Global, job: &MemJob, lib: &Library, style: &Style) -> Result<Option<Plan>, Memory> {
+    if !mem_within(&job.mem) {
+        return Ok(None);
     }
+    if !library_within(lib) {
+        return Ok(None);
+    }
+    least_plain(alloc, job, lib, style)
 }
 
 /// The RAM that the memory gets of so many equal ones, and its points.
-fn chosen(alloc: Global, count: u32, style: Style) -> Result<Option<(u32, u64)>, Memory> {
+fn chosen(alloc: Global, count: u32, style: Style) -> Result<Option<(Option<u32>, u64)>, Memory> {
     let lib = library(alloc, count)?;
     let job = memory(alloc)?;
-    if !mem_within(&job.mem) || !library_within(&lib) {
-        return Ok(None);
-    }
-    let plan = least_plain(alloc, &job, &lib, &style)?;
-    Ok(ram_of(&plan))
+    let plan = plan(alloc, &job, &lib, &style)?;
+    Ok(outcome(&plan))
 }
 
 #[test]
 fn least_of_equals(rt: HostRuntime) -> Result<(), Fail> {
     let alloc = rt.alloc();
     assert_eq!(rt; chosen(alloc, 0, Style::Auto)?, None);
-    assert_eq!(rt; chosen(alloc, 1, Style::Auto)?, Some((0, 16)));
-    assert_eq!(rt; chosen(alloc, 3, Style::Auto)?, Some((0, 16)));
+    assert_eq!(rt; chosen(alloc, 1, Style::Auto)?, Some((Some(0), 16)));
+    assert_eq!(rt; chosen(alloc, 3, Style::Auto)?, Some((Some(0), 16)));
     Ok(())
 }
 
@@ -78,7 +74,7 @@ fn by_style(rt: HostRuntime) -> Result<(), Fail> {
     assert_eq!(rt; chosen(alloc, 1, Style::Registers)?, None);
     assert_eq!(rt;
         chosen(alloc, 1, Style::Class(RamClass::Distributed))?,
-        Some((0, 16))
+        Some((Some(0), 16))
     );
     assert_eq!(rt; chosen(alloc, 1, Style::Class(RamClass::Block))?, None);
     Ok(())

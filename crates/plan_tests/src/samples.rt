@@ -1,6 +1,7 @@
 //! Groups, RAMs, libraries, ports and memories that the tests share.
 ghost use Rattle.std.specs.Prelude.{◌≡◌, IfOk};
 
+use fit_rules::Plan;
 use geom_core::{Candidate, RamChoice, ReadPlace};
 use lib_core::{
     EdgeKind, Fill, Group, Library, List, Memory, Name, OwnWrite, PortKind, RamClass, RamKind,
@@ -316,4 +317,15 @@ pub fn candidate(
         writes,
         reads,
     }))
+}
+
+/// The RAM of a plan, or none for registers, and its points.
+pub fn outcome(plan: &Option<Plan>) -> Option<(Option<u32>, u64)> {
+    match plan {
+        None => None,
+        Some(plan) => match &plan.candidate {
+            Candidate::Registers => Some((None, plan.points)),
+            Candidate::Ram(choice) => Some((Some(choice.ram), plan.points)),
+        },
+    }
 }
