@@ -12,6 +12,8 @@ mod refusing;
 mod simulating;
 pub mod status;
 mod subject;
+#[cfg(test)]
+mod tests;
 mod texts;
 pub mod top;
 
