@@ -1,4 +1,5 @@
-//! Tests of what reads, builds and prints, which stand apart so that those crates are proved once.
+//! Tests of lists, libraries and logic cells, and of what reads, builds and prints. They stand apart, so
+//! that those crates are proved once; this library has nothing else.
 #![tactic(auto)]
 
 #[cfg(test)]
