@@ -6,3 +6,4 @@ pub mod Numbers
 pub mod NewRegister
 pub mod Ranging
 pub mod Flagging
+pub mod Leaving

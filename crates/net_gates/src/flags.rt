@@ -1,8 +1,8 @@
 //! A flag that chooses between lists.
-ghost use Rattle.std.specs.Prelude.{◌≡◌, ◌+◌, ◌^◌, ◌<◌, ◌∷◌, ◌++◌, [], length, IfOk, IfErr};
+ghost use Rattle.std.specs.Prelude.{◌≡◌, ◌≤◌, ◌+◌, ◌^◌, ◌<◌, ◌∷◌, ◌++◌, [], length, IfOk, OnErr, IfErr};
 ghost use Rattle.net_edit.specs.Edits.{IsOverBy};
 ghost use Rattle.net_edit.specs.Laws.{IsKnownClock};
-ghost use Rattle.net_gates.specs.Adds.{IsReady};
+ghost use Rattle.net_gates.specs.Adds.{Grows, IsReady};
 ghost use Rattle.net_gates.specs.Flags.{flag_pins, AddsFlag};
 
 use crate::compare::mux;
@@ -45,7 +45,8 @@ fn flag_register(alloc: Global, flag: FlagPins) -> Result<RegPins, Memory>
     })
 }
 
-/// A new flag, and the bits of the second list while it is 1, else those of the first.
+/// A new flag, and the bits of the second list while it is 1, else those of the first. After an `Err`
+/// the module has all that it had, and maybe the flag or new nets.
 #[tactic(auto, using(crate::proofs::Flagging::over_flag))]
 pub fn flag_mux(
     alloc: Global,
@@ -60,6 +61,8 @@ pub fn flag_mux(
     requires few { length low.now < 2 ^ 32 }
     ensures adds { IfOk result (λ ys. AddsFlag edit.old edit.new flag low.now high.now ys) }
     ensures full { IfErr result (IsOverBy (edit.old.netlist.nets + (1 + length low.now))) }
+    ensures fits { IfOk result (λ _. edit.old.netlist.nets + (1 + length low.now) ≤ 67108864) }
+    ensures left { OnErr result (Grows edit.old.netlist edit.new.netlist) }
 {
     let pins = flag_register(alloc, flag)?;
     let shown = register(alloc, edit, pins)?;

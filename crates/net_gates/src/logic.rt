@@ -1,7 +1,7 @@
 //! One logic cell over new nets.
-ghost use Rattle.std.specs.Prelude.{◌≡◌, ◌+◌, ◌∷◌, [], IfOk, IfErr};
+ghost use Rattle.std.specs.Prelude.{◌≡◌, ◌≤◌, ◌+◌, ◌∷◌, [], IfOk, IfErr};
 ghost use Rattle.net_edit.specs.Edits.{as_bits, bits_from, IsOver};
-ghost use Rattle.net_gates.specs.Cells.{AddsLogic};
+ghost use Rattle.net_gates.specs.Cells.{AddsLogic, IsLeft};
 
 use lib_core::{List, Memory, Name};
 use net_core::{Bit, Comb, CombKind};
@@ -46,7 +46,7 @@ pub(crate) fn net_bits(alloc: Global, nets: &[u32]) -> Result<List<Bit>, Memory>
 }
 
 /// A logic cell over so many new nets, and these as bits.
-#[tactic(auto, using(crate::proofs::NewCell::logic_added))]
+#[tactic(auto, using(crate::proofs::NewCell::logic_added, crate::proofs::Leaving::left_at_once, crate::proofs::Leaving::left_with_nets))]
 pub(crate) fn logic(
     alloc: Global,
     edit: &mut Edit,
@@ -59,6 +59,8 @@ pub(crate) fn logic(
     ensures bits { IfOk result (λ bits. bits ≡ bits_from edit.old.netlist.nets width) }
     ensures cell { IfOk result (λ _. AddsLogic edit.old edit.new kind left right select width) }
     ensures full { IfErr result (IsOver (edit.old.netlist.nets + width)) }
+    ensures fits { IfOk result (λ _. edit.old.netlist.nets + width ≤ 67108864) }
+    ensures left { IfErr result (IsLeft edit.old edit.new width) }
 {
     let y = edit.fresh(width)?;
     let bits = net_bits(alloc, y.as_slice())?;
@@ -86,6 +88,8 @@ pub(crate) fn gate(
     ensures net { IfOk result (λ y. y ≡ Bit.Net edit.old.netlist.nets) }
     ensures cell { IfOk result (λ _. AddsLogic edit.old edit.new kind left right [] 1) }
     ensures full { IfErr result (IsOver (edit.old.netlist.nets + 1)) }
+    ensures fits { IfOk result (λ _. edit.old.netlist.nets + 1 ≤ 67108864) }
+    ensures left { IfErr result (IsLeft edit.old edit.new 1) }
 {
     let bits = logic(alloc, edit, kind, left, right, no_bits(alloc), 1)?;
     Ok(bits.as_slice()[0])

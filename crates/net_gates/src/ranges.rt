@@ -1,7 +1,7 @@
 //! Addresses in a range.
-ghost use Rattle.std.specs.Prelude.{◌≡◌, ◌+◌, IfOk, IfErr};
+ghost use Rattle.std.specs.Prelude.{◌≡◌, ◌≤◌, ◌+◌, IfOk, OnErr, IfErr};
 ghost use Rattle.net_edit.specs.Edits.{IsOverBy};
-ghost use Rattle.net_gates.specs.Adds.{AddsBit, IsReady};
+ghost use Rattle.net_gates.specs.Adds.{AddsBit, Grows, IsReady};
 ghost use Rattle.net_gates.specs.Meanings as spec;
 
 use crate::compare::less_const;
@@ -11,7 +11,7 @@ use net_edit::{Edit, EditFault};
 use std::alloc::Global;
 
 /// A bit that is 1 where an address, low bit first, is not below the first of a range and below its
-/// end.
+/// end. Four gates are added. After an `Err` the module has all that it had, and maybe some of them.
 pub fn in_range(
     alloc: Global,
     edit: &mut Edit,
@@ -22,6 +22,8 @@ pub fn in_range(
     requires { IsReady edit.old addr.now }
     ensures adds { IfOk result (λ y. AddsBit edit.old edit.new addr.now y (spec.is_within addr.now first end)) }
     ensures full { IfErr result (IsOverBy (edit.old.netlist.nets + 4)) }
+    ensures fits { IfOk result (λ _. edit.old.netlist.nets + 4 ≤ 67108864) }
+    ensures left { OnErr result (Grows edit.old.netlist edit.new.netlist) }
 {
     let below = less_const(alloc, edit, addr, first)?;
     let reached = not_gate(alloc, edit, below)?;

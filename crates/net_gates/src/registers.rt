@@ -1,8 +1,9 @@
 //! Registers with an enable and a reset.
-ghost use Rattle.std.specs.Prelude.{◌≡◌, ◌+◌, ◌∷◌, ◌^◌, ◌<◌, length, IfOk, IfErr};
+ghost use Rattle.std.specs.Prelude.{◌≡◌, ◌≤◌, ◌+◌, ◌∷◌, ◌^◌, ◌<◌, length, IfOk, IfErr};
 ghost use Rattle.net_edit.specs.Edits.{bits_from, IsOver};
 ghost use Rattle.net_edit.specs.Laws.{IsKnownClock};
 ghost use Rattle.net_gates.specs.Adds.{IsReady};
+ghost use Rattle.net_gates.specs.Cells.{IsLeft};
 ghost use Rattle.net_gates.specs.Registers.{AddsRegister};
 
 use crate::logic::net_bits;
@@ -24,6 +25,7 @@ pub struct RegPins {
 }
 
 /// The outputs of a new register, whose clock the module has already.
+#[tactic(auto, using(crate::proofs::Leaving::left_at_once, crate::proofs::Leaving::left_with_nets))]
 pub fn register(alloc: Global, edit: &mut Edit, pins: RegPins) -> Result<List<Bit>, EditFault>
     requires ready { IsReady edit.old (pins.en ∷ pins.rst ∷ pins.d) }
     requires known { IsKnownClock edit.old.netlist pins.clock }
@@ -32,6 +34,8 @@ pub fn register(alloc: Global, edit: &mut Edit, pins: RegPins) -> Result<List<Bi
     ensures adds { IfOk result (λ _. AddsRegister edit.old edit.new pins) }
     ensures nets { IfOk result (λ _. edit.new.netlist.nets ≡ edit.old.netlist.nets + length pins.d) }
     ensures full { IfErr result (IsOver (edit.old.netlist.nets + length pins.d)) }
+    ensures fits { IfOk result (λ _. edit.old.netlist.nets + length pins.d ≤ 67108864) }
+    ensures left { IfErr result (IsLeft edit.old edit.new (length pins.d)) }
 {
     let q = edit.fresh(pins.d.as_slice().len() as u32)?;
     let bits = net_bits(alloc, q.as_slice())?;
