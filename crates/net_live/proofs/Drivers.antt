@@ -1,5 +1,5 @@
 -- Where no net is driven twice, a table tells the one place that drives each net.
-use Rattle.std.proofs.Common.{◌≡◌, ℕ, zero, suc, ◌+◌, ◌<◌, Bool, true, false, cond, List, [], ◌∷◌, ◌++◌, length, map, Option, Some, None, refl, sym, ap, subst, ◌∙◌, arith, eqb}
+use Rattle.std.proofs.Common.{◌≡◌, ℕ, zero, suc, ◌+◌, true, cond, List, [], ◌∷◌, ◌++◌, length, map, Some, refl, sym, ap, subst, ◌∙◌, arith}
 use Rattle.std.specs.Prelude.{slice_get, nat_eq}
 use Rattle.std.specs.List.{flat_map, list_all}
 use Rattle.std.proofs.lemmas.Bool.{ne_eqb}
@@ -24,44 +24,44 @@ use Rattle.net_live.specs.Driving.{read_nets, slot_nets, node_nets, driven_nets,
 use Rattle.net_live.proofs.Needing.{net_below}
 
 -- a net, and a place that drives it
-record Entry : Type 0 where
-  net : ℕ
-  place : Driver
+pub record Entry : Type 0 where
+  pub net : ℕ
+  pub place : Driver
 
-abbrev nets_in : List Entry → List ℕ
+abbrev pub nets_in : List Entry → List ℕ
 nets_in es = map (λ (e : Entry). e.net) es
 
-abbrev Among : List Entry → Entry → Type 0
+abbrev pub Among : List Entry → Entry → Type 0
 Among es e = (k : ℕ) × (slice_get es k ≡ Some e)
 
 -- what each item gives, by its number
-abbrev numbered : {X : Type 0} → (ℕ → X → List Entry) → ℕ → List X → List Entry
+abbrev pub numbered : {X : Type 0} → (ℕ → X → List Entry) → ℕ → List X → List Entry
 numbered f i [] = []
 numbered f i (x ∷ xs) = f i x ++ numbered f (suc i) xs
 
 -- the places of a list of nets
-abbrev place_at : (ℕ → Driver) → ℕ → ℕ → List Entry
+abbrev pub place_at : (ℕ → Driver) → ℕ → ℕ → List Entry
 place_at make k n = record { net = n; place = make k } ∷ []
 
-abbrev places : (ℕ → Driver) → List ℕ → List Entry
+abbrev pub places : (ℕ → Driver) → List ℕ → List Entry
 places make ns = numbered (place_at make) 0 ns
 
-abbrev comb_places : ℕ → Comb → List Entry
+abbrev pub comb_places : ℕ → Comb → List Entry
 comb_places i c = places (CombOut i) c.y
 
-abbrev reg_places : ℕ → Reg → List Entry
+abbrev pub reg_places : ℕ → Reg → List Entry
 reg_places i r = places (RegOut i) r.q
 
-abbrev read_places : ℕ → ℕ → RdPort → List Entry
+abbrev pub read_places : ℕ → ℕ → RdPort → List Entry
 read_places i j r = places (ReadOut i j) r.out
 
-abbrev mem_places : ℕ → Mem → List Entry
+abbrev pub mem_places : ℕ → Mem → List Entry
 mem_places i x = numbered (read_places i) 0 x.reads
 
-abbrev slot_places : ℕ → ℕ → SlotUse → List Entry
+abbrev pub slot_places : ℕ → ℕ → SlotUse → List Entry
 slot_places i j s = places (SlotOut i j) s.out
 
-abbrev ram_places : ℕ → RamCell → List Entry
+abbrev pub ram_places : ℕ → RamCell → List Entry
 ram_places i c = numbered (slot_places i) 0 c.slots
 
 -- the nets of places
@@ -123,22 +123,22 @@ found : (es : List Entry) → AreApart (nets_in es) → (e : Entry) → Among es
 found es apart e (k, h) = found_at es apart k e h
 
 module _ (m : Module) where
-  abbrev slots_part : List Entry
+  abbrev pub slots_part : List Entry
   slots_part = numbered ram_places 0 m.rams
 
-  abbrev reads_part : List Entry
+  abbrev pub reads_part : List Entry
   reads_part = numbered mem_places 0 m.mems ++ slots_part
 
-  abbrev regs_part : List Entry
+  abbrev pub regs_part : List Entry
   regs_part = numbered reg_places 0 m.regs ++ reads_part
 
-  abbrev combs_part : List Entry
+  abbrev pub combs_part : List Entry
   combs_part = numbered comb_places 0 m.combs ++ regs_part
 
-  abbrev all_places : List Entry
+  abbrev pub all_places : List Entry
   all_places = places Input (inputs_of m) ++ combs_part
 
-  all_nets : nets_in all_places ≡ driven_nets m
+  pub all_nets : nets_in all_places ≡ driven_nets m
   all_nets =
       let slots = numbered_nets ram_places slot_nets (λ i c. numbered_nets (slot_places i) (λ (s : SlotUse). s.out) (λ j s. place_nets (SlotOut i j) 0 s.out) 0 c.slots) 0 m.rams in
       let reads = numbered_nets mem_places read_nets (λ i x. numbered_nets (read_places i) (λ (r : RdPort). r.out) (λ j r. place_nets (ReadOut i j) 0 r.out) 0 x.reads) 0 m.mems in
@@ -187,7 +187,7 @@ module _ (m : Module) where
       }
 
 -- what nodes drive
-abbrev drives_of : Node → List ℕ
+abbrev pub drives_of : Node → List ℕ
 drives_of p = p.drives
 
 flat_flat : {X Y : Type 0} (node : Y → Node) (f : X → List Y) (xs : List X) → flat_map drives_of (flat_map (λ x. map node (f x)) xs) ≡ flat_map (λ x. flat_map (λ y. drives_of (node y)) (f x)) xs
@@ -197,7 +197,7 @@ flat_flat node f (x ∷ xs) =
     let rest = flat_flat node f xs in
     flat_map-append drives_of (map node (f x)) (flat_map (λ y. map node (f y)) xs) ∙ (λ i. front i ++ rest i)
 
-nodes_drive : (m : Module) → flat_map drives_of (nodes_of m) ≡ node_nets m
+pub nodes_drive : (m : Module) → flat_map drives_of (nodes_of m) ≡ node_nets m
 nodes_drive m =
     let slots = flat_flat slot_node (λ (c : RamCell). c.slots) m.rams in
     let reads = flat_flat read_node (λ (x : Mem). x.reads) m.mems in

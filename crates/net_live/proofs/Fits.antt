@@ -1,5 +1,5 @@
 -- The tests of a memory say that it fits.
-use Rattle.std.proofs.Common.{◌≡◌, ℕ, zero, suc, ◌+◌, ◌*◌, ◌^◌, ◌≤◌, ◌<◌, Bool, true, false, cond, not, ◌&&◌, nat_eq, nat_le, List, [], ◌∷◌, length, take, drop, get_or, add-one, drop-cons, Option, Some, None, refl, sym, ap, subst, ◌∙◌, arith}
+use Rattle.std.proofs.Common.{◌≡◌, ℕ, zero, suc, ◌+◌, ◌*◌, ◌^◌, ◌<◌, Bool, true, false, cond, not, ◌&&◌, nat_eq, nat_le, List, [], ◌∷◌, length, take, drop, get_or, add-one, drop-cons, Option, Some, None, refl, sym, ap, subst, ◌∙◌, arith}
 use Rattle.std.specs.Prelude.{slice_get}
 use Rattle.std.specs.List.{list_all, list_any, sum_by}
 use Rattle.std.proofs.lemmas.Option.{none-some, same_Some}
@@ -17,7 +17,7 @@ use Rattle.net_core.specs.Values.{bit_at}
 use Rattle.net_core.specs.Valid.{is_identifier, Each, IsCounted, AttrFits, AttrsFit, AddressFits, NoneDefined, AtOnce, ReadFits, WriteFits, MemSizes, MemFits, data_width}
 use Rattle.net_core.proofs.Basics.{and_left, and_right}
 use Rattle.net_live.specs.Fitting.{is_counted, is_empty, attr_fits, attrs_fit, words_fit, width_fits, sizes_fit, address_fits, has_data_width, is_any, none_defined, none_set, none_both, read_values_fit, masks_fit, pins_at_once, values_at_once, at_once_where, read_fits, write_values_fit, priorities_fit, write_fits, writes_fit_from, read_words_fit, write_words_fit, ports_fit, contents_fit, mem_fits}
-use Rattle.net_live.proofs.Judged.{le_true, eq_true, not_is, none_left, each_from, each_of_front, none_at, none_from}
+use Rattle.net_live.proofs.Judged.{le_true, eq_true, not_is, none_left, each_from, each_of_front, none_from}
 
 -- both parts of a test
 abbrev Both : Bool → Bool → Type 0

@@ -1,4 +1,6 @@
+pub mod Apart
 pub mod Drivers
+pub mod Fitted
 pub mod Fits
 pub mod Judged
 pub mod Needing

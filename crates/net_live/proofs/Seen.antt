@@ -1,10 +1,9 @@
 -- Numbers that are marked one after the other: none of them stands twice.
-use Rattle.std.proofs.Common.{◌≡◌, ℕ, zero, suc, ◌+◌, ◌<◌, ◌≤◌, Bool, true, false, ◌⊎◌, List, [], ◌∷◌, length, Some, refl, sym, ap, subst, ◌∙◌, inl, inr, arith, set}
+use Rattle.std.proofs.Common.{◌≡◌, ℕ, zero, suc, ◌+◌, ◌<◌, ◌≤◌, Bool, true, false, ◌⊎◌, List, [], ◌∷◌, length, Some, refl, sym, ap, subst, ◌∙◌, inl, inr, arith, set, replicate}
 use Rattle.std.specs.Prelude.{slice_get}
 use Rattle.std.proofs.lemmas.Bool.{cases_lt}
 use Rattle.std.proofs.lemmas.Option.{none-some, same_Some}
 use Rattle.std.proofs.lemmas.List.{length-set}
-use Rattle.net_core.specs.Valid.{AreApart}
 use Rattle.net_core.proofs.Basics.{get_below}
 use Rattle.net_live.specs.Driving.{AreBelowApart}
 
@@ -14,6 +13,7 @@ pub record FirstSeen (limit : ℕ) (nets : List ℕ) (count : ℕ) (seen : List 
   pub marked : (k n : ℕ) → k < count → slice_get nets k ≡ Some n → slice_get seen n ≡ Some true
   pub below : (k n : ℕ) → k < count → slice_get nets k ≡ Some n → n < limit
   pub apart : (a b n : ℕ) → a < count → b < count → slice_get nets a ≡ Some n → slice_get nets b ≡ Some n → a ≡ b
+  pub told : (n : ℕ) → slice_get seen n ≡ Some true → (k : ℕ) × (k < count) × (slice_get nets k ≡ Some n)
 
 set_there : (xs : List Bool) (i : ℕ) → i < length xs → slice_get (set xs i true) i ≡ Some true
 set_there [] i h = absurd (omega (arith, h))
@@ -27,6 +27,14 @@ set_keeps (x ∷ xs) zero (suc j) h = h
 set_keeps (x ∷ xs) (suc i) zero h = h
 set_keeps (x ∷ xs) (suc i) (suc j) h = set_keeps xs i j h
 
+-- what is marked then is the one that was, or was marked before
+set_from : (xs : List Bool) (i n : ℕ) → slice_get (set xs i true) n ≡ Some true → (n ≡ i) ⊎ (slice_get xs n ≡ Some true)
+set_from [] i n h = inr h
+set_from (x ∷ xs) zero zero h = inl refl
+set_from (x ∷ xs) zero (suc n) h = inr h
+set_from (x ∷ xs) (suc i) zero h = inr h
+set_from (x ∷ xs) (suc i) (suc n) h = elim (set_from xs i n h) [ inl e ↦ inl (ap suc e) | inr g ↦ inr g ]
+
 -- a number below one more is below, or is the last
 last_or : (k count : ℕ) → k < count + 1 → (k < count) ⊎ (k ≡ count)
 last_or k count h =
@@ -35,13 +43,19 @@ last_or k count h =
       | inr le ↦ inr (omega (arith, h, le))
     ]
 
-pub none_seen : (limit : ℕ) (nets : List ℕ) (seen : List Bool) → length seen ≡ limit → FirstSeen limit nets 0 seen
-none_seen limit nets seen h = record {
+pub none_seen : (limit : ℕ) (nets : List ℕ) (seen : List Bool) → length seen ≡ limit → ((n : ℕ) → slice_get seen n ≡ Some true → ⊥) → FirstSeen limit nets 0 seen
+none_seen limit nets seen h none = record {
   size = h;
   marked = λ k n lt g. absurd (omega (arith, lt));
   below = λ k n lt g. absurd (omega (arith, lt));
   apart = λ a b n la lb g h. absurd (omega (arith, la));
+  told = λ n g. absurd (none n g);
 }
+
+pub none_marked : (count n : ℕ) → slice_get (replicate count false) n ≡ Some true → ⊥
+none_marked zero n h = none-some true h
+none_marked (suc count) zero h = cc
+none_marked (suc count) (suc n) h = none_marked count n h
 
 module _ (limit : ℕ) (nets : List ℕ) (count : ℕ) (seen : List Bool) (net : ℕ) (first : FirstSeen limit nets count seen) (here : slice_get nets count ≡ Some net) (within : net < length seen) (new : slice_get seen net ≡ Some false) where
   is_here : (k n : ℕ) → k ≡ count → slice_get nets k ≡ Some n → net ≡ n
@@ -79,11 +93,28 @@ module _ (limit : ℕ) (nets : List ℕ) (count : ℕ) (seen : List Bool) (net :
         ]
       ]
 
+  one_told : (n : ℕ) → slice_get (set seen net true) n ≡ Some true → (k : ℕ) × (k < count + 1) × (slice_get nets k ≡ Some n)
+  one_told n h =
+      elim (set_from seen net n h) [
+        | inl e ↦ (count, omega arith, here ∙ ap (λ x. Some x) (sym e))
+        | inr g ↦ let (k, lt, at) = first.told n g in (k, omega (arith, lt), at)
+      ]
+
   pub one_seen : FirstSeen limit nets (count + 1) (set seen net true)
-  one_seen = record { size = length-set seen net true ∙ first.size; marked = one_marked; below = one_below; apart = one_apart }
+  one_seen = record { size = length-set seen net true ∙ first.size; marked = one_marked; below = one_below; apart = one_apart; told = one_told }
 
 inside : (nets : List ℕ) (count k n : ℕ) → length nets ≤ count → slice_get nets k ≡ Some n → k < count
 inside nets count k n le g = let i = get_below nets k n g in omega (arith, i, le)
+
+-- a number that is not below the limit, or is marked already, is one too many
+pub none_above : (limit : ℕ) (nets : List ℕ) (count net : ℕ) → slice_get nets count ≡ Some net → limit ≤ net → AreBelowApart limit nets → ⊥
+none_above limit nets count net here le are = let lt = are.below count net here in omega (arith, lt, le)
+
+pub none_again : (limit : ℕ) (nets : List ℕ) (count : ℕ) (seen : List Bool) (net : ℕ) → FirstSeen limit nets count seen → slice_get nets count ≡ Some net → slice_get seen net ≡ Some true → AreBelowApart limit nets → ⊥
+none_again limit nets count seen net first here marked are =
+    let (k, lt, at) = first.told net marked in
+    let same = are.apart k count net at here in
+    omega (arith, lt, same)
 
 -- where all are seen none stands twice
 pub all_seen : (limit : ℕ) (nets : List ℕ) (count : ℕ) (seen : List Bool) → length nets ≤ count → FirstSeen limit nets count seen → AreBelowApart limit nets

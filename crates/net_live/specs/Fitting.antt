@@ -1,6 +1,7 @@
--- Tests of what has to hold of a memory: each Boolean here is true only where the record of the same subject holds.
+-- Tests of what has to hold of a memory. That of a whole memory is true exactly where the memory fits; those of its parts are
+-- true only where the record of the same subject holds.
 use Rattle.std.specs.Prelude.{ℕ, ◌+◌, ◌*◌, ◌^◌, Bool, true, false, cond, not, ◌&&◌, List, [], ◌∷◌, length, Option, Some, None, nat_eq, nat_le, take, drop}
-use Rattle.std.specs.List.{list_all, list_any, sum_by}
+use Rattle.std.specs.List.{list_all, sum_by}
 use Rattle.lib_core.specs.declared.library.Tri.{Tri}
 use Rattle.lib_core.specs.declared.library.Tri.TheVariants as tri
 use Rattle.net_core.specs.declared.bits.Bit.{Bit}

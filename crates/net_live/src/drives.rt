@@ -1,5 +1,5 @@
 //! Whether each net has at most one driver.
-ghost use Rattle.std.specs.Prelude.{◌≡◌, ◌++◌, true, IfOk, OnOk};
+ghost use Rattle.std.specs.Prelude.{◌≡◌, ◌↔◌, ◌++◌, true, IfOk, OnOk};
 ghost use Rattle.std.specs.List.{flat_map};
 ghost use Rattle.net_live.specs.Driving.{read_nets, slot_nets, node_nets, driven_nets, AreBelowApart};
 
@@ -9,7 +9,7 @@ use std::alloc::Global;
 
 /// Whether inputs and nodes drive nets of the module alone, and no net twice.
 pub fn are_driven_once(alloc: Global, module: &Module) -> Result<bool, Memory>
-    ensures { IfOk result (λ once. once ≡ true → AreBelowApart «module».now.nets (driven_nets «module».now)) }
+    ensures { IfOk result (λ once. once ≡ true ↔ AreBelowApart «module».now.nets (driven_nets «module».now)) }
 {
     let nets = driven_nets(alloc, module)?;
     are_below_apart(alloc, module.nets, nets.as_slice())
@@ -92,7 +92,7 @@ fn push_rams(nets: &mut Vec<u32>, rams: &[RamCell]) -> Result<(), Memory>
 
 /// Whether these numbers lie below a limit, and none stands twice.
 fn are_below_apart(alloc: Global, limit: u32, nets: &[u32]) -> Result<bool, Memory>
-    ensures { IfOk result (λ apart. apart ≡ true → AreBelowApart limit nets.now) }
+    ensures { IfOk result (λ apart. apart ≡ true ↔ AreBelowApart limit nets.now) }
 {
     let mut seen = vec![in alloc; false; limit as usize]?;
     for net in nets {

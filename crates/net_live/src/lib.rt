@@ -11,4 +11,5 @@ mod ports;
 mod slots;
 mod sound;
 
+pub use needs::bits_within;
 pub use sound::{design_is_sound, is_sound};

@@ -1,5 +1,5 @@
 //! Whether nodes need nets of the module alone, and how many nodes there are.
-ghost use Rattle.std.specs.Prelude.{◌≡◌, ℕ, ◌<◌, ◌+◌, ◌^◌, true, length, Some};
+ghost use Rattle.std.specs.Prelude.{◌≡◌, ◌↔◌, ℕ, ◌<◌, ◌+◌, ◌^◌, true, length, Some, None};
 ghost use Rattle.std.specs.List.{list_all, sum_by};
 ghost use Rattle.net_core.specs.Nodes.{comb_node, reg_node, read_node, slot_node, nodes_of};
 ghost use Rattle.net_live.specs.Driving.{bit_below, needs_below};
@@ -83,7 +83,8 @@ fn slot_within(nets: u32, slot: &SlotUse) -> bool
     }
 }
 
-fn bits_within(nets: u32, bits: &[Bit]) -> bool
+/// Whether each bit is a constant, or a net of so many.
+pub fn bits_within(nets: u32, bits: &[Bit]) -> bool
     ensures { result ≡ list_all (bit_below nets) bits.now }
 {
     bits.iter().all(|bit| bit_within(nets, *bit))
@@ -98,9 +99,9 @@ fn bit_within(nets: u32, bit: Bit) -> bool
     }
 }
 
-/// Whether numbers of 32 bits can name the nodes.
+/// Whether numbers of 32 bits can name the nodes. It takes no memory.
 pub fn nodes_are_few(module: &Module) -> bool
-    ensures { result ≡ true → length (nodes_of «module».now) < 2 ^ 32 }
+    ensures { result ≡ true ↔ length (nodes_of «module».now) < 2 ^ 32 }
 {
     match room_left(module) {
         None => false,
@@ -110,7 +111,8 @@ pub fn nodes_are_few(module: &Module) -> bool
 
 /// How many more nodes numbers of 32 bits could name.
 fn room_left(module: &Module) -> Option<usize>
-    ensures { (left : ℕ) → result ≡ Some left → length (nodes_of «module».now) + left ≡ 4294967295 }
+    ensures left { (left : ℕ) → result ≡ Some left → length (nodes_of «module».now) + left ≡ 4294967295 }
+    ensures full { result ≡ None → 4294967295 < length (nodes_of «module».now) }
 {
     let room = without(4_294_967_295, module.combs.as_slice().len())?;
     let room = without(room, module.regs.as_slice().len())?;
@@ -120,7 +122,8 @@ fn room_left(module: &Module) -> Option<usize>
 
 /// The room without that for so many nodes, where there is so much.
 fn without(room: usize, count: usize) -> Option<usize>
-    ensures { (left : ℕ) → result ≡ Some left → count + left ≡ room }
+    ensures left { (left : ℕ) → result ≡ Some left → count + left ≡ room }
+    ensures full { result ≡ None → room < count }
 {
     room.checked_sub(count)
 }
@@ -128,7 +131,8 @@ fn without(room: usize, count: usize) -> Option<usize>
 /// The room without that for all read ports, where there is so much.
 #[tactic(auto, using(crate::proofs::Needing::reads_more))]
 fn without_reads(room: usize, mems: &[Mem]) -> Option<usize>
-    ensures { (left : ℕ) → result ≡ Some left → sum_by (λ x. length x.reads) mems.now + left ≡ room }
+    ensures left { (left : ℕ) → result ≡ Some left → sum_by (λ x. length x.reads) mems.now + left ≡ room }
+    ensures full { result ≡ None → room < sum_by (λ x. length x.reads) mems.now }
 {
     let mut left = room;
     let mut rest = mems;
@@ -142,7 +146,8 @@ fn without_reads(room: usize, mems: &[Mem]) -> Option<usize>
 /// The room without that for all slots, where there is so much.
 #[tactic(auto, using(crate::proofs::Needing::slots_more))]
 fn without_slots(room: usize, rams: &[RamCell]) -> Option<usize>
-    ensures { (left : ℕ) → result ≡ Some left → sum_by (λ c. length c.slots) rams.now + left ≡ room }
+    ensures left { (left : ℕ) → result ≡ Some left → sum_by (λ c. length c.slots) rams.now + left ≡ room }
+    ensures full { result ≡ None → room < sum_by (λ c. length c.slots) rams.now }
 {
     let mut left = room;
     let mut rest = rams;

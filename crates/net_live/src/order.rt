@@ -1,5 +1,5 @@
 //! Whether the nodes of a module have a combinational order.
-ghost use Rattle.std.specs.Prelude.{◌≡◌, ◌<◌, ◌^◌, true, length, IfOk};
+ghost use Rattle.std.specs.Prelude.{◌≡◌, ◌↔◌, ◌<◌, ◌^◌, true, length, IfOk};
 ghost use Rattle.net_core.specs.Nodes.{nodes_of, NetsWithin, Ordered};
 
 use lib_core::Memory;
@@ -11,7 +11,7 @@ use std::alloc::Global;
 pub fn has_order(alloc: Global, module: &Module) -> Result<bool, Memory>
     requires within { NetsWithin «module».now }
     requires few { length (nodes_of «module».now) < 2 ^ 32 }
-    ensures { IfOk result (λ ordered. ordered ≡ true → Ordered «module».now) }
+    ensures { IfOk result (λ ordered. ordered ≡ true ↔ Ordered «module».now) }
 {
     orders_agree();
     match comb_order(alloc, module) {

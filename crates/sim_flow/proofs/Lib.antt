@@ -1,4 +1,4 @@
-mod Counted
 mod Found
+mod Limited
 mod Tested
 mod Traced

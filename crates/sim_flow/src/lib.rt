@@ -3,7 +3,6 @@
 #![tactic(auto)]
 
 mod chosen;
-mod counts;
 mod stimulus;
 mod subject;
 mod testing;
