@@ -1,3 +1,5 @@
 pub mod Following
 pub mod Joining
+pub mod Learning
+pub mod Matching
 pub mod Near

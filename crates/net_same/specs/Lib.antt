@@ -1,3 +1,5 @@
 pub mod Laws
+pub mod Learning
 pub mod Nets
+pub mod Own
 pub mod Same

@@ -16,6 +16,11 @@ is_start_attr a = bytes_eq a.name (codes "\\init")
 abbrev pub without_starts : List Attr → List Attr
 without_starts attrs = filter (λ a. not (is_start_attr a)) attrs
 
+-- the first of the attributes does not tell how bits start
+abbrev pub BeginsPlain : List Attr → Type 0
+BeginsPlain [] = Unit {0}
+BeginsPlain (a ∷ rest) = is_start_attr a ≡ false
+
 -- the wire b is a, with the nets that f says, but for how its bits start
 pub record IsSameWire (f : ℕ → ℕ) (a b : Wire) : Type 0 where
   pub name : b.name ≡ a.name

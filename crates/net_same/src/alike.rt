@@ -1,4 +1,4 @@
-//! Equality whose yes means that two values are one.
+//! Equality: yes means that two values are one, and no that they are not.
 ghost use Rattle.std.specs.Prelude.{◌≡◌, true};
 
 use lib_core::{List, Name, Tri};
@@ -8,7 +8,8 @@ use net_core::{Attr, CombKind, FfKind, Place};
 pub trait Alike {
     /// Whether the two are one value.
     fn is_alike(&self, other: &Self) -> bool
-        ensures { result ≡ true → other.now ≡ self.now };
+        ensures sound { result ≡ true → other.now ≡ self.now }
+        ensures complete { other.now ≡ self.now → result ≡ true };
 }
 
 impl Alike for u32 {
@@ -76,7 +77,8 @@ impl<T: Alike> Alike for List<T> {
 
 /// Whether two lists have the same items in the same order.
 fn are_alike<T: Alike>(left: &[T], right: &[T]) -> bool
-    ensures { result ≡ true → right.now ≡ left.now }
+    ensures sound { result ≡ true → right.now ≡ left.now }
+    ensures complete { right.now ≡ left.now → result ≡ true }
 {
     let mut lefts = left;
     let mut rights = right;

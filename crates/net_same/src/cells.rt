@@ -1,5 +1,6 @@
 //! Logic cells, registers and carried cells, compared under tables of nets.
 ghost use Rattle.net_core.specs.Renaming.{renamed_comb, renamed_reg, renamed_pin, renamed_carried};
+ghost use Rattle.net_same.specs.Own.{comb_nets, reg_nets, pin_nets, carried_nets};
 
 use crate::alike::Alike;
 use crate::nets::Wired;
@@ -8,6 +9,8 @@ use net_core::{Carried, Comb, Pin, Reg};
 
 impl Wired for Comb {
     ghost renamed = { renamed_comb };
+
+    ghost nets = { comb_nets };
 
     fn learn(&self, other: &Comb, tables: &mut Tables) {
         self.a.learn(&other.a, tables);
@@ -30,6 +33,8 @@ impl Wired for Comb {
 impl Wired for Pin {
     ghost renamed = { renamed_pin };
 
+    ghost nets = { pin_nets };
+
     fn learn(&self, other: &Pin, tables: &mut Tables) {
         self.bits.learn(&other.bits, tables);
     }
@@ -43,6 +48,8 @@ impl Wired for Pin {
 
 impl Wired for Carried {
     ghost renamed = { renamed_carried };
+
+    ghost nets = { carried_nets };
 
     fn learn(&self, other: &Carried, tables: &mut Tables) {
         self.pins.learn(&other.pins, tables);
@@ -59,6 +66,8 @@ impl Wired for Carried {
 
 impl Wired for Reg {
     ghost renamed = { renamed_reg };
+
+    ghost nets = { reg_nets };
 
     fn learn(&self, other: &Reg, tables: &mut Tables) {
         self.clock.learn(&other.clock, tables);

@@ -1,5 +1,6 @@
 //! Memories and their ports, compared under tables of nets.
 ghost use Rattle.net_core.specs.Renaming.{renamed_read, renamed_write, renamed_mem};
+ghost use Rattle.net_same.specs.Own.{read_nets, write_nets, mem_nets};
 
 use crate::alike::Alike;
 use crate::nets::Wired;
@@ -8,6 +9,8 @@ use net_core::{Mem, RdPort, WrPort};
 
 impl Wired for RdPort {
     ghost renamed = { renamed_read };
+
+    ghost nets = { read_nets };
 
     fn learn(&self, other: &RdPort, tables: &mut Tables) {
         self.clock.learn(&other.clock, tables);
@@ -38,6 +41,8 @@ impl Wired for RdPort {
 impl Wired for WrPort {
     ghost renamed = { renamed_write };
 
+    ghost nets = { write_nets };
+
     fn learn(&self, other: &WrPort, tables: &mut Tables) {
         self.clock.learn(&other.clock, tables);
         self.en.learn(&other.en, tables);
@@ -57,6 +62,8 @@ impl Wired for WrPort {
 
 impl Wired for Mem {
     ghost renamed = { renamed_mem };
+
+    ghost nets = { mem_nets };
 
     fn learn(&self, other: &Mem, tables: &mut Tables) {
         self.reads.learn(&other.reads, tables);

@@ -1,5 +1,6 @@
 //! RAM cells, compared under tables of nets.
 ghost use Rattle.net_core.specs.Renaming.{renamed_slot, renamed_ram};
+ghost use Rattle.net_same.specs.Own.{slot_nets, ram_nets};
 
 use crate::alike::Alike;
 use crate::nets::Wired;
@@ -8,6 +9,8 @@ use net_core::{RamCell, SlotUse};
 
 impl Wired for SlotUse {
     ghost renamed = { renamed_slot };
+
+    ghost nets = { slot_nets };
 
     fn learn(&self, other: &SlotUse, tables: &mut Tables) {
         self.clock.learn(&other.clock, tables);
@@ -44,6 +47,8 @@ impl Wired for SlotUse {
 
 impl Wired for RamCell {
     ghost renamed = { renamed_ram };
+
+    ghost nets = { ram_nets };
 
     fn learn(&self, other: &RamCell, tables: &mut Tables) {
         self.slots.learn(&other.slots, tables);

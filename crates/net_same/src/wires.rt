@@ -1,9 +1,10 @@
 //! Wires, compared but for how their bits start, and wires that may be added.
-ghost use Rattle.std.specs.Prelude.{◌≡◌, true, codes};
+ghost use Rattle.std.specs.Prelude.{◌≡◌, ◌≤◌, true, codes, length};
 ghost use Rattle.std.specs.Str.{bytes_eq};
 ghost use Rattle.std.specs.List.{AllByRecursion};
 ghost use Rattle.net_same.specs.Nets.{sent};
-ghost use Rattle.net_same.specs.Same.{is_start_attr, without_starts, has_ram_name, IsSameWire, IsAdded, WiresSame};
+ghost use Rattle.net_same.specs.Same.{is_start_attr, without_starts, BeginsPlain, has_ram_name, IsSameWire, IsAdded, WiresSame};
+ghost use Rattle.net_same.specs.Learning.{WiresTeach, IsWireSeen, AreWiresSeen};
 
 use crate::alike::Alike;
 use crate::nets::Wired;
@@ -19,7 +20,9 @@ fn is_start_attr(attr: &Attr) -> bool
 
 /// The attributes from the first on that does not tell how bits start.
 fn past_starts(attrs: &[Attr]) -> &[Attr]
-    ensures { without_starts result.now ≡ without_starts attrs.now }
+    ensures same { without_starts result.now ≡ without_starts attrs.now }
+    ensures plain { BeginsPlain result.now }
+    ensures shorter { length result.now ≤ length attrs.now }
 {
     let mut rest = attrs;
     while let [first, tail @ ..] = rest {
@@ -33,28 +36,28 @@ fn past_starts(attrs: &[Attr]) -> &[Attr]
 
 /// Whether attributes are the same but for those that tell how bits start.
 fn are_same_attrs(olds: &[Attr], news: &[Attr]) -> bool
-    ensures { result ≡ true → without_starts news.now ≡ without_starts olds.now }
+    ensures sound { result ≡ true → without_starts news.now ≡ without_starts olds.now }
+    ensures complete { without_starts news.now ≡ without_starts olds.now → result ≡ true }
 {
-    let mut lefts = olds;
-    let mut rights = news;
+    let mut lefts = past_starts(olds);
+    let mut rights = past_starts(news);
     while let [old, tail @ ..] = lefts {
-        if !is_start_attr(old) {
-            let [new, more @ ..] = past_starts(rights) else {
-                return false;
-            };
-            if !old.is_alike(new) {
-                return false;
-            }
-            rights = more;
+        let [new, more @ ..] = rights else {
+            return false;
+        };
+        if !old.is_alike(new) {
+            return false;
         }
-        lefts = tail;
+        lefts = past_starts(tail);
+        rights = past_starts(more);
     }
-    past_starts(rights).is_empty()
+    rights.is_empty()
 }
 
 /// Whether a wire is another, but for how its bits start, with the nets that the tables say.
 fn is_same_wire(old: &Wire, new: &Wire, tables: &Tables) -> bool
-    ensures { result ≡ true → IsSameWire (sent tables.now) old.now new.now }
+    ensures sound { result ≡ true → IsSameWire (sent tables.now) old.now new.now }
+    ensures complete { IsWireSeen old.now new.now tables.now result }
 {
     old.name.is_alike(&new.name)
         & old.port.is_alike(&new.port)
@@ -69,7 +72,8 @@ fn is_same_wire(old: &Wire, new: &Wire, tables: &Tables) -> bool
 
 /// Whether a wire may be added: it is no port, and its name is not one of a RAM cell's nets.
 fn is_added(wire: &Wire) -> bool
-    ensures { result ≡ true → IsAdded wire.now }
+    ensures sound { result ≡ true → IsAdded wire.now }
+    ensures complete { IsAdded wire.now → result ≡ true }
 {
     (wire.port == 0) & !wire.input & !wire.output & !has_ram_name(wire.name.as_slice())
 }
@@ -83,7 +87,8 @@ fn has_ram_name(name: &[u8]) -> bool
 
 /// Whether all of these wires may be added.
 fn are_added(wires: &[Wire]) -> bool
-    ensures { result ≡ true → AllByRecursion IsAdded wires.now }
+    ensures sound { result ≡ true → AllByRecursion IsAdded wires.now }
+    ensures complete { AllByRecursion IsAdded wires.now → result ≡ true }
 {
     let mut rest = wires;
     while let [first, tail @ ..] = rest {
@@ -97,7 +102,8 @@ fn are_added(wires: &[Wire]) -> bool
 
 /// Whether wires are others, in order, and then wires that may be added.
 pub fn wires_are_same(olds: &[Wire], news: &[Wire], tables: &Tables) -> bool
-    ensures { result ≡ true → WiresSame (sent tables.now) olds.now news.now }
+    ensures sound { result ≡ true → WiresSame (sent tables.now) olds.now news.now }
+    ensures complete { AreWiresSeen olds.now news.now tables.now result }
 {
     let mut lefts = olds;
     let mut rights = news;
@@ -115,8 +121,17 @@ pub fn wires_are_same(olds: &[Wire], news: &[Wire], tables: &Tables) -> bool
 }
 
 /// Enters the nets of wires that stand at the same places.
-pub fn learn_wires(olds: &[Wire], news: &[Wire], tables: &mut Tables) {
-    for (old, new) in olds.iter().zip(news) {
+pub fn learn_wires(olds: &[Wire], news: &[Wire], tables: &mut Tables)
+    ensures { WiresTeach olds.now news.now tables.old tables.new }
+{
+    let mut lefts = olds;
+    let mut rights = news;
+    while let [old, tail @ ..] = lefts {
+        let [new, more @ ..] = rights else {
+            return;
+        };
         old.bits.learn(&new.bits, tables);
+        lefts = tail;
+        rights = more;
     }
 }
