@@ -1,5 +1,5 @@
 //! What has to be known of cells and nodes before they are put together; it is tested here.
-ghost use Rattle.std.specs.Prelude.{◌≡◌, ◌<◌, ◌^◌, Bool, true, length};
+ghost use Rattle.std.specs.Prelude.{◌≡◌, ◌<◌, ◌^◌, ◌&&◌, Bool, true, length, nat_lt};
 ghost use Rattle.net_loops.specs.Loops.{NetsBelow, nodes_in};
 ghost use Rattle.net_module.specs.Nodes.{AreShapesWithin};
 ghost use Rattle.net_build.specs.Below as spec;
@@ -45,7 +45,8 @@ fn nodes_below(nets: u32, nodes: &[NetNode]) -> bool
 /// Whether all nets of the nodes have a number below this one.
 #[tactic(auto, using(crate::proofs::Belows::below))]
 pub(crate) fn are_below(nets: u32, nodes: &[NetNode]) -> bool
-    ensures { result ≡ true → NetsBelow nets (nodes_in nodes.now) }
+    ensures value { result ≡ spec.nodes_below nets nodes.now }
+    ensures below { result ≡ true → NetsBelow nets (nodes_in nodes.now) }
 {
     nodes_below(nets, nodes)
 }
@@ -77,6 +78,7 @@ fn shapes_within(cells: &[RawCell]) -> bool
 /// Whether the memory cells are within the limits, and numbers of 32 bits can name the cells.
 #[tactic(auto, using(crate::proofs::Belows::within))]
 pub(crate) fn are_within(cells: &[RawCell]) -> bool
+    ensures value { result ≡ (nat_lt (length cells.now) 4294967296 && spec.shapes_within cells.now) }
     ensures few { result ≡ true → length cells.now < 2 ^ 32 }
     ensures within { result ≡ true → AreShapesWithin cells.now }
 {

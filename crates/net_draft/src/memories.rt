@@ -1,5 +1,5 @@
 //! Whole memories as cells.
-ghost use Rattle.std.specs.Prelude.{◌≡◌, true, IfOk};
+ghost use Rattle.std.specs.Prelude.{◌≡◌, ◌↔◌, true, IfOk};
 ghost use Rattle.net_core.specs.Valid.{MemFits};
 ghost use Rattle.mem_pack.specs.Laws.{IsPackable};
 ghost use Rattle.mem_pack.specs.Packed.{packed};
@@ -14,7 +14,7 @@ use std::alloc::Global;
 
 /// Whether a memory was not cut from another.
 fn is_whole(mem: &Mem) -> bool
-    ensures { result ≡ true → (mem.now.origin ≡ mem.now.name) × (mem.now.place ≡ record { copy = 0; row = 0; column = 0 }) }
+    ensures { result ≡ true ↔ ((mem.now.origin ≡ mem.now.name) × (mem.now.place ≡ record { copy = 0; row = 0; column = 0 })) }
 {
     let first = Place {
         copy: 0,
