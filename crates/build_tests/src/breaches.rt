@@ -146,7 +146,8 @@ fn the_earlier_one_is_told(rt: HostRuntime) -> Result<(), Fail> {
 /// A text, and the name and the count of the limit that it passes first.
 type Passed<'a> = (&'a [u8], &'a [u8], u64);
 
-/// One for each limit of wires, of memories and of their cells.
+/// One for each limit of wires and of memories, and two of their cells: bits of an address and read
+/// ports.
 const LIMITS: [Passed<'static>; 7] = [
     (
         b"module \\m\nwire width 4194305 \\a\nend\n",
