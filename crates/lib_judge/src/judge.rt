@@ -1,5 +1,5 @@
 //! What is wrong with a RAM.
-ghost use Rattle.std.specs.Prelude.{◌≡◌, ◌≤◌, ◌<◌, ◌+◌, ◌++◌, ◌∷◌, [], IfOk, length, map};
+ghost use Rattle.std.specs.Prelude.{◌≡◌, ◌≤◌, ◌<◌, ◌+◌, ◌++◌, ◌∷◌, [], IfOk, OnOk, length, map};
 ghost use Rattle.lib_judge.specs.Judge.{all_fit, all_known, any_lacks, any_named, any_overlap, any_repeat, any_unknown, fits_byte, fits_bytes, has_abits, has_both, has_clock, has_widths, is_abits, is_bad, is_byte, is_clock, is_cost, is_init, is_missing, is_set_again, is_style, is_twice, is_width, items_repeat, lacks, lacks_clock, lacks_target, missing_in, one_group, one_overlap, overlap, plain_sizes, ports_known, rises, rises_from, same_item, same_setting, same_target, sets_widths, settings_known, settings_repeat, sizes_from, stands_again, widths_known, with_item};
 
 use crate::names::Names;
@@ -297,7 +297,7 @@ pub fn is_missing(known: &Names, ports: &[RawPort], sketch: &Sketch) -> bool
 }
 
 /// What the items of a variant say.
-#[derive(Debug, Drop)]
+#[derive(Debug)]
 pub struct Sizes {
     pub abits: u32,
     pub widths: List<u32>,
@@ -308,45 +308,45 @@ pub struct Sizes {
     pub style: Option<Name>,
 }
 
-fn with_item(alloc: Global, sizes: Sizes, item: &Item) -> Result<Sizes, Memory>
-    ensures { IfOk result (λ next. next ≡ with_item sizes item.now) }
-{
-    Ok(match item {
-        Item::Size(Size::Abits, number) => Sizes {
-            abits: *number,
-            ..sizes
-        },
-        Item::Size(Size::Width, number) => {
-            let mut widths = List::from_vec(Vec::new(alloc));
-            widths.push(*number)?;
-            Sizes {
-                widths,
-                per_port: false,
-                ..sizes
+/// By a function of its own, so that whatever holds sizes drops them by one call.
+impl Drop for Sizes {
+    fn drop(self) {
+        let Sizes {
+            abits: _abits,
+            widths: _widths,
+            per_port: _per_port,
+            byte: _byte,
+            cost: _cost,
+            fill: _fill,
+            style: _style,
+        } = self;
+    }
+}
+
+impl Sizes {
+    /// Notes what an item says.
+    fn put(&mut self, alloc: Global, item: &Item) -> Result<(), Memory>
+        ensures { OnOk result (self.new ≡ with_item self.old item.now) }
+    {
+        match item {
+            Item::Size(Size::Abits, number) => self.abits = *number,
+            Item::Size(Size::Width, number) => {
+                let mut widths = List::from_vec(Vec::new(alloc));
+                widths.push(*number)?;
+                self.widths = widths;
+                self.per_port = false;
             }
+            Item::Size(Size::Byte, number) => self.byte = Some(*number),
+            Item::Size(Size::Cost, number) => self.cost = *number,
+            Item::Widths { widths, per_port } => {
+                self.widths = widths.duplicate(alloc)?;
+                self.per_port = *per_port;
+            }
+            Item::Init(fill) => self.fill = *fill,
+            Item::Style(style) => self.style = Some(style.copy(alloc)?),
         }
-        Item::Size(Size::Byte, number) => Sizes {
-            byte: Some(*number),
-            ..sizes
-        },
-        Item::Size(Size::Cost, number) => Sizes {
-            cost: *number,
-            ..sizes
-        },
-        Item::Widths { widths, per_port } => Sizes {
-            widths: widths.duplicate(alloc)?,
-            per_port: *per_port,
-            ..sizes
-        },
-        Item::Init(fill) => Sizes {
-            fill: *fill,
-            ..sizes
-        },
-        Item::Style(style) => Sizes {
-            style: Some(style.copy(alloc)?),
-            ..sizes
-        },
-    })
+        Ok(())
+    }
 }
 
 /// What the items say, and what holds where none says otherwise.
@@ -365,7 +365,7 @@ pub fn sizes_of(alloc: Global, items: &[Item]) -> Result<Sizes, Memory>
     };
     let mut rest = items;
     while let [item, tail @ ..] = rest {
-        sizes = with_item(alloc, sizes, item)?;
+        sizes.put(alloc, item)?;
         rest = tail;
     }
     Ok(sizes)

@@ -1,5 +1,5 @@
 //! Names that are looked up.
-ghost use Rattle.std.specs.Prelude.{◌≡◌, [], IfOk};
+ghost use Rattle.std.specs.Prelude.{◌≡◌, [], IfOk, OnOk};
 ghost use Rattle.lib_judge.specs.Names.{distinct_from, place_of, with_name};
 ghost use Rattle.lib_judge.specs.Variants.{has_name};
 
@@ -9,9 +9,15 @@ use std::alloc::Global;
 use std::marker::Model;
 
 /// Names in order, none of them twice.
-#[derive(Drop)]
 pub struct Names {
     found: IndexSet<Name>,
+}
+
+/// By a function of its own, so that whatever holds names drops them by one call.
+impl Drop for Names {
+    fn drop(self) {
+        let Names { found: _found } = self;
+    }
 }
 
 impl Model for Names {
@@ -38,23 +44,14 @@ impl Names {
         self.found.contains(name)
     }
 
-    /// With a name at the end, if it is not there yet.
-    #[tactic(auto, unfolding(crate::specs::Names::with_name), using(crate::proofs::Looked::has_is))]
-    pub fn with(mut self, alloc: Global, name: &Name) -> Result<Names, Memory>
-        ensures { IfOk result (λ next. next ≡ with_name self name.now) }
-    {
-        self.found.insert(name.copy(alloc)?)?;
-        Ok(self)
-    }
-
-    /// With a name at the end, if it is not there yet, and its place.
+    /// Puts a name at the end, if it is not there yet. The answer is its place.
     #[tactic(auto, unfolding(crate::specs::Names::with_name), using(crate::proofs::Looked::has_is, crate::proofs::Looked::place_is))]
-    pub fn with_place(mut self, alloc: Global, name: &Name) -> Result<(Names, usize), Memory>
-        ensures names { IfOk result (λ found. found.0 ≡ with_name self name.now) }
-        ensures place { IfOk result (λ found. found.1 ≡ place_of self name.now) }
+    pub fn add(&mut self, alloc: Global, name: &Name) -> Result<usize, Memory>
+        ensures names { OnOk result (self.new ≡ with_name self.old name.now) }
+        ensures place { IfOk result (λ place. place ≡ place_of self.old name.now) }
     {
         let (place, _) = self.found.insert_full(name.copy(alloc)?)?;
-        Ok((self, place))
+        Ok(place)
     }
 }
 
@@ -69,7 +66,7 @@ pub fn distinct(alloc: Global, names: &[Name]) -> Result<Option<Names>, Memory>
         if seen.has(name) {
             return Ok(None);
         }
-        seen = seen.with(alloc, name)?;
+        seen.add(alloc, name)?;
         rest = tail;
     }
     Ok(Some(seen))

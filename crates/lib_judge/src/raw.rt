@@ -9,7 +9,7 @@ use lib_tree::{Scope, Statement};
 use std::alloc::Global;
 
 /// A port as it is written.
-#[derive(Debug, Drop)]
+#[derive(Debug)]
 pub struct RawPort {
     pub kind: PortKind,
     pub names: List<Name>,
@@ -19,8 +19,20 @@ pub struct RawPort {
     pub options: List<List<Choice>>,
 }
 
+/// By a function of its own, so that whatever holds a port drops it by one call.
+impl Drop for RawPort {
+    fn drop(self) {
+        let RawPort {
+            kind: _kind,
+            names: _names,
+            body: _body,
+            options: _options,
+        } = self;
+    }
+}
+
 /// A RAM as it is written.
-#[derive(Debug, Drop)]
+#[derive(Debug)]
 pub struct RawRam {
     /// The line of its word `ram`.
     pub line: u32,
@@ -31,6 +43,20 @@ pub struct RawRam {
     pub ports: List<RawPort>,
     /// The values of each of its options.
     pub options: List<List<Choice>>,
+}
+
+/// By a function of its own, so that whatever holds a RAM drops it by one call.
+impl Drop for RawRam {
+    fn drop(self) {
+        let RawRam {
+            line: _line,
+            class: _class,
+            name: _name,
+            body: _body,
+            ports: _ports,
+            options: _options,
+        } = self;
+    }
 }
 
 /// How many statements stand before the end of the block that they are in.

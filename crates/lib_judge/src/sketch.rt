@@ -10,10 +10,20 @@ use lib_tree::{Item, Scope, Setting, Statement};
 use std::alloc::Global;
 
 /// What counts in a variant, of a RAM and of each of its ports.
-#[derive(Debug, Drop)]
+#[derive(Debug)]
 pub struct Sketch {
     pub items: List<Item>,
     pub ports: List<List<Setting>>,
+}
+
+/// By a function of its own, so that whatever holds a sketch drops it by one call.
+impl Drop for Sketch {
+    fn drop(self) {
+        let Sketch {
+            items: _items,
+            ports: _ports,
+        } = self;
+    }
 }
 
 /// Whether a block counts, by the choices of the RAM and of the port.

@@ -117,9 +117,8 @@ pub fn axes(alloc: Global, choices: &[Choice]) -> Result<Vec<List<Choice>>, Memo
     let mut axes: Vec<List<Choice>> = Vec::new(alloc);
     let mut rest = choices;
     while let [choice, tail @ ..] = rest {
-        let (next, place) = names.with_place(alloc, &choice.name)?;
+        let place = names.add(alloc, &choice.name)?;
         add_choice(alloc, &mut axes, place, choice)?;
-        names = next;
         rest = tail;
     }
     Ok(axes)

@@ -1,5 +1,5 @@
 //! Names that were taken so far.
-ghost use Rattle.std.specs.Prelude.{◌≡◌, [], IfOk};
+ghost use Rattle.std.specs.Prelude.{◌≡◌, [], OnOk};
 ghost use Rattle.rtlil_text.specs.Grammar.{has};
 ghost use Rattle.rtlil_text.specs.Read.{with_name};
 
@@ -9,9 +9,15 @@ use std::alloc::Global;
 use std::marker::Model;
 
 /// Names in order, none of them twice.
-#[derive(Drop)]
 pub struct Names {
     seen: IndexSet<Name>,
+}
+
+/// By a function of its own, so that whatever holds names drops them by one call.
+impl Drop for Names {
+    fn drop(self) {
+        let Names { seen: _seen } = self;
+    }
 }
 
 impl Model for Names {
@@ -38,12 +44,12 @@ impl Names {
         self.seen.contains(name)
     }
 
-    /// With a name at the end, if it is not there yet.
+    /// Puts a name at the end, if it is not there yet.
     #[tactic(auto, unfolding(crate::specs::Read::with_name, crate::specs::Grammar::has))]
-    pub fn with(mut self, alloc: Global, name: &Name) -> Result<Names, Memory>
-        ensures { IfOk result (λ next. next ≡ with_name self name.now) }
+    pub fn add(&mut self, alloc: Global, name: &Name) -> Result<(), Memory>
+        ensures { OnOk result (self.new ≡ with_name self.old name.now) }
     {
         self.seen.insert(name.copy(alloc)?)?;
-        Ok(self)
+        Ok(())
     }
 }

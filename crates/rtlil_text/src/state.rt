@@ -1,6 +1,5 @@
 //! What was read of a text before a line.
-ghost use Rattle.std.specs.Prelude.{◌≡◌, ◌++◌, ◌∷◌, [], IfOk};
-ghost use Rattle.rtlil_text.specs.Read.{with_name};
+ghost use Rattle.std.specs.Prelude.{◌≡◌, [], IfOk, OnOk};
 ghost use Rattle.rtlil_text.specs.ReadState.{no_names, start, with_item, with_line, with_attribute, put_item, begin_module, put_wire, put_memory, begin_cell, put_parameter, put_pin, end, advance};
 
 use crate::doc::{CellLine, DocAttr, DocCell, DocMem, DocModule, DocParam, DocWire, Item, Part};
@@ -8,6 +7,7 @@ use crate::names::Names;
 use crate::place::Statement;
 use lib_core::{List, Memory, Name};
 use std::alloc::Global;
+use std::mem;
 
 /// What is open before a line.
 #[derive(Drop)]
@@ -30,7 +30,6 @@ pub struct Taken {
 }
 
 /// What was read of a text before a line.
-#[derive(Drop)]
 pub struct State {
     /// The modules that ended.
     pub modules: List<DocModule>,
@@ -40,6 +39,20 @@ pub struct State {
     /// Whether a line `autoidx` was read.
     pub autoidx: bool,
     pub names: Taken,
+}
+
+/// By a function of its own, so that whatever holds a state drops it by one call.
+impl Drop for State {
+    fn drop(self) {
+        let State {
+            modules: _modules,
+            current,
+            attrs: _attrs,
+            autoidx: _autoidx,
+            names: _names,
+        } = self;
+        drop(current);
+    }
 }
 
 fn no_attrs(alloc: Global) -> List<DocAttr>
@@ -62,71 +75,25 @@ fn no_names(alloc: Global) -> Taken
     }
 }
 
-/// The names without those of a module that ends.
-#[tactic(auto, unfolding(crate::specs::ReadState::no_names))]
-fn no_items(alloc: Global, names: Taken) -> Taken
-    ensures { result ≡ record no_names { modules = names.modules } }
-{
-    Taken {
-        modules: names.modules,
-        ..no_names(alloc)
+impl Taken {
+    /// The names without those of a module that ends.
+    #[tactic(auto, unfolding(crate::specs::ReadState::no_names))]
+    fn end_module(&mut self, alloc: Global)
+        ensures { self.new ≡ record no_names { modules = self.old.modules } }
+    {
+        self.wires = Names::new(alloc);
+        self.memories = Names::new(alloc);
+        self.cells = Names::new(alloc);
+        self.end_cell(alloc);
     }
-}
 
-/// The names without those of a cell that ends.
-fn no_lines(alloc: Global, names: Taken) -> Taken
-    ensures { result ≡ record names { parameters = []; pins = [] } }
-{
-    Taken {
-        parameters: Names::new(alloc),
-        pins: Names::new(alloc),
-        ..names
+    /// The names without those of a cell that ends.
+    fn end_cell(&mut self, alloc: Global)
+        ensures { self.new ≡ record self.old { parameters = []; pins = [] } }
+    {
+        self.parameters = Names::new(alloc);
+        self.pins = Names::new(alloc);
     }
-}
-
-fn with_module_name(alloc: Global, names: Taken, name: &Name) -> Result<Taken, Memory>
-    ensures { IfOk result (λ next. next ≡ record names { modules = with_name names.modules name.now }) }
-{
-    let modules = names.modules.with(alloc, name)?;
-    Ok(Taken { modules, ..names })
-}
-
-fn with_wire_name(alloc: Global, names: Taken, name: &Name) -> Result<Taken, Memory>
-    ensures { IfOk result (λ next. next ≡ record names { wires = with_name names.wires name.now }) }
-{
-    let wires = names.wires.with(alloc, name)?;
-    Ok(Taken { wires, ..names })
-}
-
-fn with_memory_name(alloc: Global, names: Taken, name: &Name) -> Result<Taken, Memory>
-    ensures { IfOk result (λ next. next ≡ record names { memories = with_name names.memories name.now }) }
-{
-    let memories = names.memories.with(alloc, name)?;
-    Ok(Taken { memories, ..names })
-}
-
-fn with_cell_name(alloc: Global, names: Taken, name: &Name) -> Result<Taken, Memory>
-    ensures { IfOk result (λ next. next ≡ record names { cells = with_name names.cells name.now }) }
-{
-    let cells = names.cells.with(alloc, name)?;
-    Ok(Taken { cells, ..names })
-}
-
-fn with_parameter_name(alloc: Global, names: Taken, name: &Name) -> Result<Taken, Memory>
-    ensures { IfOk result (λ next. next ≡ record names { parameters = with_name names.parameters name.now }) }
-{
-    let parameters = names.parameters.with(alloc, name)?;
-    Ok(Taken {
-        parameters,
-        ..names
-    })
-}
-
-fn with_pin_name(alloc: Global, names: Taken, name: &Name) -> Result<Taken, Memory>
-    ensures { IfOk result (λ next. next ≡ record names { pins = with_name names.pins name.now }) }
-{
-    let pins = names.pins.with(alloc, name)?;
-    Ok(Taken { pins, ..names })
 }
 
 /// Before the first line.
@@ -143,73 +110,28 @@ pub fn start(alloc: Global) -> State
     }
 }
 
-/// The open module with one item more.
-#[tactic(auto, unfolding(crate::specs::ReadState::with_item))]
-fn with_item(current: Open, item: Item) -> Result<Open, Memory>
-    ensures { IfOk result (λ next. next ≡ with_item current item) }
-{
-    match current {
-        Open::Module(mut within) => {
-            within.items.push(item)?;
-            Ok(Open::Module(within))
+impl Open {
+    /// The open module with one item more.
+    #[tactic(auto, unfolding(crate::specs::ReadState::with_item))]
+    fn put_item(&mut self, item: Item) -> Result<(), Memory>
+        ensures { OnOk result (self.new ≡ with_item self.old item) }
+    {
+        match self {
+            Open::Module(within) => within.items.push(item),
+            _ => Ok(()),
         }
-        current => Ok(current),
     }
-}
 
-/// The open cell with one line more.
-#[tactic(auto, unfolding(crate::specs::ReadState::with_line))]
-fn with_line(current: Open, line: CellLine) -> Result<Open, Memory>
-    ensures { IfOk result (λ next. next ≡ with_line current line) }
-{
-    match current {
-        Open::Cell(within, mut cell) => {
-            cell.lines.push(line)?;
-            Ok(Open::Cell(within, cell))
+    /// The open cell with one line more.
+    #[tactic(auto, unfolding(crate::specs::ReadState::with_line))]
+    fn put_line(&mut self, line: CellLine) -> Result<(), Memory>
+        ensures { OnOk result (self.new ≡ with_line self.old line) }
+    {
+        match self {
+            Open::Cell(_, cell) => cell.lines.push(line),
+            _ => Ok(()),
         }
-        current => Ok(current),
     }
-}
-
-#[tactic(auto, unfolding(crate::specs::ReadState::with_attribute))]
-fn with_attribute(mut state: State, attr: DocAttr) -> Result<State, Memory>
-    ensures { IfOk result (λ next. next ≡ with_attribute state attr) }
-{
-    state.attrs.push(attr)?;
-    Ok(state)
-}
-
-/// With an item that has neither name nor attributes.
-#[tactic(auto, unfolding(crate::specs::ReadState::put_item))]
-fn put_item(state: State, item: Item) -> Result<State, Memory>
-    ensures { IfOk result (λ next. next ≡ put_item state item) }
-{
-    let current = with_item(state.current, item)?;
-    Ok(State {
-        current,
-        modules: state.modules,
-        attrs: state.attrs,
-        autoidx: state.autoidx,
-        names: state.names,
-    })
-}
-
-#[tactic(auto, unfolding(crate::specs::ReadState::begin_module))]
-fn begin_module(alloc: Global, state: State, name: Name) -> Result<State, Memory>
-    ensures { IfOk result (λ next. next ≡ begin_module state name) }
-{
-    let names = with_module_name(alloc, state.names, &name)?;
-    Ok(State {
-        modules: state.modules,
-        current: Open::Module(DocModule {
-            attrs: state.attrs,
-            name,
-            items: List::from_vec(Vec::new(alloc)),
-        }),
-        attrs: no_attrs(alloc),
-        autoidx: state.autoidx,
-        names,
-    })
 }
 
 /// The wire with these attributes.
@@ -219,182 +141,168 @@ fn attributed(wire: DocWire, attrs: List<DocAttr>) -> DocWire
     DocWire { attrs, ..wire }
 }
 
-#[tactic(auto, unfolding(crate::specs::ReadState::put_wire))]
-fn put_wire(alloc: Global, state: State, wire: DocWire) -> Result<State, Memory>
-    ensures { IfOk result (λ next. next ≡ put_wire state wire) }
-{
-    let names = with_wire_name(alloc, state.names, &wire.name)?;
-    let wire = attributed(wire, state.attrs);
-    let current = with_item(state.current, Item::Wire(wire))?;
-    Ok(State {
-        modules: state.modules,
-        current,
-        attrs: no_attrs(alloc),
-        autoidx: state.autoidx,
-        names,
-    })
-}
-
-#[tactic(auto, unfolding(crate::specs::ReadState::put_memory))]
-fn put_memory(alloc: Global, state: State, memory: DocMem) -> Result<State, Memory>
-    ensures { IfOk result (λ next. next ≡ put_memory state memory) }
-{
-    let names = with_memory_name(alloc, state.names, &memory.name)?;
-    let memory = DocMem {
-        attrs: state.attrs,
-        ..memory
-    };
-    let current = with_item(state.current, Item::Mem(memory))?;
-    Ok(State {
-        modules: state.modules,
-        current,
-        attrs: no_attrs(alloc),
-        autoidx: state.autoidx,
-        names,
-    })
-}
-
-#[tactic(auto, unfolding(crate::specs::ReadState::begin_cell, crate::specs::ReadState::cell_in))]
-fn begin_cell(alloc: Global, state: State, kind: Name, name: Name) -> Result<State, Memory>
-    ensures { IfOk result (λ next. next ≡ begin_cell state kind name) }
-{
-    let State {
-        modules,
-        current,
-        attrs,
-        autoidx,
-        names,
-    } = state;
-    match current {
-        Open::Module(within) => {
-            let names = with_cell_name(alloc, names, &name)?;
-            let cell = DocCell {
-                attrs,
-                kind,
-                name,
-                lines: List::from_vec(Vec::new(alloc)),
-            };
-            Ok(State {
-                modules,
-                current: Open::Cell(within, cell),
-                attrs: no_attrs(alloc),
-                autoidx,
-                names,
-            })
-        }
-        current => Ok(State {
+impl State {
+    /// The modules that ended.
+    pub fn into_modules(self) -> List<DocModule>
+        ensures { result ≡ self.modules }
+    {
+        let State {
             modules,
             current,
-            attrs,
-            autoidx,
-            names,
-        }),
+            attrs: _attrs,
+            autoidx: _autoidx,
+            names: _names,
+        } = self;
+        drop(current);
+        modules
     }
-}
 
-#[tactic(auto, unfolding(crate::specs::ReadState::put_parameter))]
-fn put_parameter(alloc: Global, state: State, param: DocParam) -> Result<State, Memory>
-    ensures { IfOk result (λ next. next ≡ put_parameter state param) }
-{
-    let names = with_parameter_name(alloc, state.names, &param.name)?;
-    let current = with_line(state.current, CellLine::Param(param))?;
-    Ok(State {
-        modules: state.modules,
-        current,
-        attrs: state.attrs,
-        autoidx: state.autoidx,
-        names,
-    })
-}
+    /// With this open in place of what was.
+    fn enter(&mut self, current: Open)
+        ensures { self.new ≡ record self.old { current = current } }
+    {
+        self.current = current;
+    }
 
-#[tactic(auto, unfolding(crate::specs::ReadState::put_pin))]
-fn put_pin(alloc: Global, state: State, name: Name, value: List<Part>) -> Result<State, Memory>
-    ensures { IfOk result (λ next. next ≡ put_pin state name value) }
-{
-    let names = with_pin_name(alloc, state.names, &name)?;
-    let current = with_line(state.current, CellLine::Pin { name, value })?;
-    Ok(State {
-        modules: state.modules,
-        current,
-        attrs: state.attrs,
-        autoidx: state.autoidx,
-        names,
-    })
-}
+    /// Takes the attributes of the object that comes next.
+    fn take_attrs(&mut self, alloc: Global) -> List<DocAttr>
+        ensures taken { result ≡ self.old.attrs }
+        ensures left { self.new ≡ record self.old { attrs = [] } }
+    {
+        mem::replace(&mut self.attrs, no_attrs(alloc))
+    }
 
-/// Modules with one more.
-fn with_module(mut modules: List<DocModule>, within: DocModule) -> Result<List<DocModule>, Memory>
-    ensures { IfOk result (λ next. next ≡ modules ++ within ∷ []) }
-{
-    modules.push(within)?;
-    Ok(modules)
-}
+    #[tactic(auto, unfolding(crate::specs::ReadState::with_attribute))]
+    fn put_attribute(&mut self, attr: DocAttr) -> Result<(), Memory>
+        ensures { OnOk result (self.new ≡ with_attribute self.old attr) }
+    {
+        self.attrs.push(attr)
+    }
 
-/// The end of the open cell, or of the open module.
-#[tactic(auto, unfolding(crate::specs::ReadState::end, crate::specs::ReadState::end_of, crate::specs::ReadState::with_item))]
-fn end(alloc: Global, state: State) -> Result<State, Memory>
-    ensures { IfOk result (λ next. next ≡ end state) }
-{
-    let State {
-        modules,
-        current,
-        attrs,
-        autoidx,
-        names,
-    } = state;
-    match current {
-        Open::File => Ok(State {
-            modules,
-            current: Open::File,
-            attrs,
-            autoidx,
-            names,
-        }),
-        Open::Module(within) => {
-            let modules = with_module(modules, within)?;
-            let names = no_items(alloc, names);
-            Ok(State {
-                modules,
-                current: Open::File,
-                attrs,
-                autoidx,
-                names,
-            })
+    /// With an item that has neither name nor attributes.
+    #[tactic(auto, unfolding(crate::specs::ReadState::put_item))]
+    fn put_item(&mut self, item: Item) -> Result<(), Memory>
+        ensures { OnOk result (self.new ≡ put_item self.old item) }
+    {
+        self.current.put_item(item)
+    }
+
+    #[tactic(auto, unfolding(crate::specs::ReadState::begin_module))]
+    fn begin_module(&mut self, alloc: Global, name: Name) -> Result<(), Memory>
+        ensures { OnOk result (self.new ≡ begin_module self.old name) }
+    {
+        self.names.modules.add(alloc, &name)?;
+        let within = DocModule {
+            attrs: self.take_attrs(alloc),
+            name,
+            items: List::from_vec(Vec::new(alloc)),
+        };
+        self.enter(Open::Module(within));
+        Ok(())
+    }
+
+    #[tactic(auto, unfolding(crate::specs::ReadState::put_wire))]
+    fn put_wire(&mut self, alloc: Global, wire: DocWire) -> Result<(), Memory>
+        ensures { OnOk result (self.new ≡ put_wire self.old wire) }
+    {
+        self.names.wires.add(alloc, &wire.name)?;
+        let wire = attributed(wire, self.take_attrs(alloc));
+        self.current.put_item(Item::Wire(wire))
+    }
+
+    #[tactic(auto, unfolding(crate::specs::ReadState::put_memory))]
+    fn put_memory(&mut self, alloc: Global, memory: DocMem) -> Result<(), Memory>
+        ensures { OnOk result (self.new ≡ put_memory self.old memory) }
+    {
+        self.names.memories.add(alloc, &memory.name)?;
+        let attrs = self.take_attrs(alloc);
+        self.current.put_item(Item::Mem(DocMem { attrs, ..memory }))
+    }
+
+    #[tactic(auto, unfolding(crate::specs::ReadState::begin_cell, crate::specs::ReadState::cell_in))]
+    fn begin_cell(&mut self, alloc: Global, kind: Name, name: Name) -> Result<(), Memory>
+        ensures { OnOk result (self.new ≡ begin_cell self.old kind name) }
+    {
+        match mem::replace(&mut self.current, Open::File) {
+            Open::Module(within) => {
+                self.names.cells.add(alloc, &name)?;
+                let cell = DocCell {
+                    attrs: self.take_attrs(alloc),
+                    kind,
+                    name,
+                    lines: List::from_vec(Vec::new(alloc)),
+                };
+                self.enter(Open::Cell(within, cell));
+            }
+            current => self.enter(current),
         }
-        Open::Cell(within, cell) => {
-            let current = with_item(Open::Module(within), Item::Cell(cell))?;
-            let names = no_lines(alloc, names);
-            Ok(State {
-                modules,
-                current,
-                attrs,
-                autoidx,
-                names,
-            })
+        Ok(())
+    }
+
+    #[tactic(auto, unfolding(crate::specs::ReadState::put_parameter))]
+    fn put_parameter(&mut self, alloc: Global, param: DocParam) -> Result<(), Memory>
+        ensures { OnOk result (self.new ≡ put_parameter self.old param) }
+    {
+        self.names.parameters.add(alloc, &param.name)?;
+        self.current.put_line(CellLine::Param(param))
+    }
+
+    #[tactic(auto, unfolding(crate::specs::ReadState::put_pin))]
+    fn put_pin(&mut self, alloc: Global, name: Name, value: List<Part>) -> Result<(), Memory>
+        ensures { OnOk result (self.new ≡ put_pin self.old name value) }
+    {
+        self.names.pins.add(alloc, &name)?;
+        self.current.put_line(CellLine::Pin { name, value })
+    }
+
+    /// The end of the open cell, or of the open module.
+    #[tactic(auto, unfolding(crate::specs::ReadState::end, crate::specs::ReadState::end_of, crate::specs::ReadState::with_item))]
+    fn end(&mut self, alloc: Global) -> Result<(), Memory>
+        ensures { OnOk result (self.new ≡ end self.old) }
+    {
+        match mem::replace(&mut self.current, Open::File) {
+            Open::File => Ok(()),
+            Open::Module(within) => {
+                self.names.end_module(alloc);
+                self.modules.push(within)
+            }
+            Open::Cell(within, cell) => {
+                self.names.end_cell(alloc);
+                self.enter(Open::Module(within));
+                self.current.put_item(Item::Cell(cell))
+            }
+        }
+    }
+
+    /// Takes what a line says.
+    #[tactic(auto, unfolding(crate::specs::ReadState::advance))]
+    fn take(&mut self, alloc: Global, statement: Statement) -> Result<(), Memory>
+        ensures { OnOk result (self.new ≡ advance self.old statement) }
+    {
+        match statement {
+            Statement::Blank => Ok(()),
+            Statement::Autoidx => {
+                self.autoidx = true;
+                Ok(())
+            }
+            Statement::Attribute(attr) => self.put_attribute(attr),
+            Statement::Module(name) => self.begin_module(alloc, name),
+            Statement::Parameter(param) => self.put_item(Item::Param(param)),
+            Statement::Wire(wire) => self.put_wire(alloc, wire),
+            Statement::Memory(memory) => self.put_memory(alloc, memory),
+            Statement::Cell { kind, name } => self.begin_cell(alloc, kind, name),
+            Statement::Connect { left, right } => self.put_item(Item::Connect { left, right }),
+            Statement::CellParameter(param) => self.put_parameter(alloc, param),
+            Statement::Pin { name, value } => self.put_pin(alloc, name, value),
+            Statement::End => self.end(alloc),
         }
     }
 }
 
 /// What was read with one more line.
-#[tactic(auto, unfolding(crate::specs::ReadState::advance))]
-pub fn advance(alloc: Global, state: State, statement: Statement) -> Result<State, Memory>
+pub fn advance(alloc: Global, mut state: State, statement: Statement) -> Result<State, Memory>
     ensures { IfOk result (λ next. next ≡ advance state statement) }
 {
-    match statement {
-        Statement::Blank => Ok(state),
-        Statement::Autoidx => Ok(State {
-            autoidx: true,
-            ..state
-        }),
-        Statement::Attribute(attr) => with_attribute(state, attr),
-        Statement::Module(name) => begin_module(alloc, state, name),
-        Statement::Parameter(param) => put_item(state, Item::Param(param)),
-        Statement::Wire(wire) => put_wire(alloc, state, wire),
-        Statement::Memory(memory) => put_memory(alloc, state, memory),
-        Statement::Cell { kind, name } => begin_cell(alloc, state, kind, name),
-        Statement::Connect { left, right } => put_item(state, Item::Connect { left, right }),
-        Statement::CellParameter(param) => put_parameter(alloc, state, param),
-        Statement::Pin { name, value } => put_pin(alloc, state, name, value),
-        Statement::End => end(alloc, state),
-    }
+    state.take(alloc, statement)?;
+    Ok(state)
 }

@@ -102,7 +102,7 @@ fn finish_text(state: State, last: u32) -> Result<Doc, TextFault>
 {
     if is_closed(&state) {
         Ok(Doc {
-            modules: state.modules,
+            modules: state.into_modules(),
         })
     } else {
         Err(fault(last, Refusal::Grammar))

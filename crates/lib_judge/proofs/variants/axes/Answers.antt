@@ -13,5 +13,5 @@ loop-rest-preserved c =
     let item = c.choice-item.result in
     record {
       same = grind (arith, common_steps);
-      named = c.in_ok-next.ensures.names ∙ ap (λ (ns : List (List ℕ)). with_name ns item.name) c.loop-rest.invariant.named ∙ sym (names_put axes item) ∙ ap (λ (xs : List (List Choice)). map first_name xs) (sym c.in_ok-add_choice.ensures);
+      named = c.in_ok-place.ensures.names ∙ ap (λ (ns : List (List ℕ)). with_name ns item.name) c.loop-rest.invariant.named ∙ sym (names_put axes item) ∙ ap (λ (xs : List (List Choice)). map first_name xs) (sym c.in_ok-add_choice.ensures);
     }
