@@ -85,7 +85,13 @@ impl Row {
     }
 
     /// Enters what a file is to hold.
-    fn tell(&mut self, alloc: Global, line: &Line<'_>, file: &[u8], bytes: Vec<u8>) -> Result<(), Halt> {
+    fn tell(
+        &mut self,
+        alloc: Global,
+        line: &Line<'_>,
+        file: &[u8],
+        bytes: Vec<u8>,
+    ) -> Result<(), Halt> {
         let name = string_of(alloc, line, file)?;
         let bytes = List::from_vec(bytes);
         let told = ToldFile { name, bytes };

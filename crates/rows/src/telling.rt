@@ -72,7 +72,9 @@ fn append_status(
 ) -> Result<(), AllocError> {
     let Seen { left, status, .. } = seen;
     let wanted = told.status;
-    let statuses = format!(in alloc; "status wanted {wanted} seen {status}, {left} commands did not run, standard error ")?;
+    let statuses = format!(in alloc;
+        "status wanted {wanted} seen {status}, {left} commands did not run, standard error "
+    )?;
     text.extend_from_slice(statuses.as_bytes())?;
     text.extend_from_slice(shown_line(seen.line.as_slice()))?;
     text.extend_from_slice(b"\n")
