@@ -1,5 +1,6 @@
 //! The parameters of the cell that holds a memory.
-ghost use Rattle.std.specs.Prelude.{◌≡◌, ◌++◌, map, IfOk, OnOk};
+ghost use Rattle.std.specs.Prelude.{◌≡◌, [], ◌∷◌, ◌++◌, map, IfOk, OnOk};
+ghost use Rattle.cell_consts.specs.Consts.{number_attr};
 ghost use Rattle.net_core.specs.Values.{tri_of};
 ghost use Rattle.mem_pack.specs.Laws.{IsSmall};
 ghost use Rattle.mem_pack.specs.Packed as packed;
@@ -49,12 +50,46 @@ fn flags_attr(alloc: Global, name: &[u8], flags: List<bool>) -> Result<Attr, Mem
     values_attr(alloc, name, bits.as_slice())
 }
 
+/// Puts a parameter that is a number at the end.
+fn push_number(alloc: Global, list: &mut Vec<Attr>, name: &[u8], number: u32) -> Result<(), Memory>
+    ensures { OnOk result (list.new.items ≡ list.old.items ++ number_attr name.now number ∷ []) }
+{
+    list.push(number_attr(alloc, name, number)?)?;
+    Ok(())
+}
+
+/// Puts a parameter of flags at the end.
+fn push_flags(
+    alloc: Global,
+    list: &mut Vec<Attr>,
+    name: &[u8],
+    flags: List<bool>,
+) -> Result<(), Memory>
+    ensures { OnOk result (list.new.items ≡ list.old.items ++ packed.flags_attr name.now flags ∷ []) }
+{
+    list.push(flags_attr(alloc, name, flags)?)?;
+    Ok(())
+}
+
+/// Puts a parameter of values at the end.
+fn push_values(
+    alloc: Global,
+    list: &mut Vec<Attr>,
+    name: &[u8],
+    values: List<Tri>,
+) -> Result<(), Memory>
+    ensures { OnOk result (list.new.items ≡ list.old.items ++ packed.values_attr name.now values ∷ []) }
+{
+    list.push(values_attr(alloc, name, values.as_slice())?)?;
+    Ok(())
+}
+
 #[tactic(auto, unfolding(crate::specs::Packed::name_params))]
 fn push_name(alloc: Global, list: &mut Vec<Attr>, mem: &Mem) -> Result<(), Memory>
     ensures { OnOk result (list.new.items ≡ list.old.items ++ packed.name_params mem.now) }
 {
     list.push(text_attr(alloc, b"\\MEMID", &mem.name)?)?;
-    list.push(number_attr(alloc, b"\\SIZE", mem.size)?)?;
+    push_number(alloc, list, b"\\SIZE", mem.size)?;
     Ok(())
 }
 
@@ -62,8 +97,8 @@ fn push_name(alloc: Global, list: &mut Vec<Attr>, mem: &Mem) -> Result<(), Memor
 fn push_address(alloc: Global, list: &mut Vec<Attr>, mem: &Mem) -> Result<(), Memory>
     ensures { OnOk result (list.new.items ≡ list.old.items ++ packed.address_params mem.now) }
 {
-    list.push(number_attr(alloc, b"\\OFFSET", mem.offset)?)?;
-    list.push(number_attr(alloc, b"\\ABITS", mem.abits)?)?;
+    push_number(alloc, list, b"\\OFFSET", mem.offset)?;
+    push_number(alloc, list, b"\\ABITS", mem.abits)?;
     Ok(())
 }
 
@@ -71,7 +106,7 @@ fn push_address(alloc: Global, list: &mut Vec<Attr>, mem: &Mem) -> Result<(), Me
 fn push_words(alloc: Global, list: &mut Vec<Attr>, mem: &Mem) -> Result<(), Memory>
     ensures { OnOk result (list.new.items ≡ list.old.items ++ packed.word_params mem.now) }
 {
-    list.push(number_attr(alloc, b"\\WIDTH", mem.width)?)?;
+    push_number(alloc, list, b"\\WIDTH", mem.width)?;
     list.push(bits_attr(alloc, b"\\INIT", &mem.init)?)?;
     Ok(())
 }
@@ -83,11 +118,11 @@ fn push_read_clocks(alloc: Global, list: &mut Vec<Attr>, mem: &Mem) -> Result<()
 {
     let reads = mem.reads.as_slice();
     let count = from_reads::read_numbers(alloc, reads)?;
+    push_number(alloc, list, b"\\RD_PORTS", count)?;
     let clocked = from_reads::read_clocked(alloc, reads)?;
+    push_flags(alloc, list, b"\\RD_CLK_ENABLE", clocked)?;
     let rising = from_reads::read_rising(alloc, reads)?;
-    list.push(number_attr(alloc, b"\\RD_PORTS", count)?)?;
-    list.push(flags_attr(alloc, b"\\RD_CLK_ENABLE", clocked)?)?;
-    list.push(flags_attr(alloc, b"\\RD_CLK_POLARITY", rising)?)?;
+    push_flags(alloc, list, b"\\RD_CLK_POLARITY", rising)?;
     Ok(())
 }
 
@@ -99,9 +134,9 @@ fn push_read_masks(alloc: Global, list: &mut Vec<Attr>, mem: &Mem) -> Result<(),
     let reads = mem.reads.as_slice();
     let writes = write_wides(alloc, mem.writes.as_slice())?;
     let trans = from_reads::read_trans(alloc, writes.as_slice(), reads)?;
+    push_flags(alloc, list, b"\\RD_TRANSPARENCY_MASK", trans)?;
     let coll = from_reads::read_coll(alloc, writes.as_slice(), reads)?;
-    list.push(flags_attr(alloc, b"\\RD_TRANSPARENCY_MASK", trans)?)?;
-    list.push(flags_attr(alloc, b"\\RD_COLLISION_X_MASK", coll)?)?;
+    push_flags(alloc, list, b"\\RD_COLLISION_X_MASK", coll)?;
     Ok(())
 }
 
@@ -112,9 +147,9 @@ fn push_read_ports(alloc: Global, list: &mut Vec<Attr>, mem: &Mem) -> Result<(),
 {
     let reads = mem.reads.as_slice();
     let behind = from_reads::read_behind(alloc, reads)?;
+    push_flags(alloc, list, b"\\RD_WIDE_CONTINUATION", behind)?;
     let over = from_reads::read_over(alloc, reads)?;
-    list.push(flags_attr(alloc, b"\\RD_WIDE_CONTINUATION", behind)?)?;
-    list.push(flags_attr(alloc, b"\\RD_CE_OVER_SRST", over)?)?;
+    push_flags(alloc, list, b"\\RD_CE_OVER_SRST", over)?;
     Ok(())
 }
 
@@ -124,9 +159,9 @@ fn push_read_values(alloc: Global, list: &mut Vec<Attr>, mem: &Mem) -> Result<()
 {
     let reads = mem.reads.as_slice();
     let arst = from_reads::read_arst_values(alloc, reads)?;
+    push_values(alloc, list, b"\\RD_ARST_VALUE", arst)?;
     let srst = from_reads::read_srst_values(alloc, reads)?;
-    list.push(values_attr(alloc, b"\\RD_ARST_VALUE", arst.as_slice())?)?;
-    list.push(values_attr(alloc, b"\\RD_SRST_VALUE", srst.as_slice())?)?;
+    push_values(alloc, list, b"\\RD_SRST_VALUE", srst)?;
     Ok(())
 }
 
@@ -135,7 +170,7 @@ fn push_read_starts(alloc: Global, list: &mut Vec<Attr>, mem: &Mem) -> Result<()
     ensures { OnOk result (list.new.items ≡ list.old.items ++ packed.read_start_params mem.now) }
 {
     let init = from_reads::read_init_values(alloc, mem.reads.as_slice())?;
-    list.push(values_attr(alloc, b"\\RD_INIT_VALUE", init.as_slice())?)?;
+    push_values(alloc, list, b"\\RD_INIT_VALUE", init)?;
     Ok(())
 }
 
@@ -146,11 +181,11 @@ fn push_write_clocks(alloc: Global, list: &mut Vec<Attr>, mem: &Mem) -> Result<(
 {
     let writes = mem.writes.as_slice();
     let count = from_writes::write_numbers(alloc, writes)?;
+    push_number(alloc, list, b"\\WR_PORTS", count)?;
     let clocked = from_writes::write_clocked(alloc, writes)?;
+    push_flags(alloc, list, b"\\WR_CLK_ENABLE", clocked)?;
     let rising = from_writes::write_rising(alloc, writes)?;
-    list.push(number_attr(alloc, b"\\WR_PORTS", count)?)?;
-    list.push(flags_attr(alloc, b"\\WR_CLK_ENABLE", clocked)?)?;
-    list.push(flags_attr(alloc, b"\\WR_CLK_POLARITY", rising)?)?;
+    push_flags(alloc, list, b"\\WR_CLK_POLARITY", rising)?;
     Ok(())
 }
 
@@ -161,9 +196,9 @@ fn push_write_ports(alloc: Global, list: &mut Vec<Attr>, mem: &Mem) -> Result<()
 {
     let writes = mem.writes.as_slice();
     let prio = from_writes::write_prio(alloc, writes)?;
+    push_flags(alloc, list, b"\\WR_PRIORITY_MASK", prio)?;
     let behind = from_writes::write_behind(alloc, writes)?;
-    list.push(flags_attr(alloc, b"\\WR_PRIORITY_MASK", prio)?)?;
-    list.push(flags_attr(alloc, b"\\WR_WIDE_CONTINUATION", behind)?)?;
+    push_flags(alloc, list, b"\\WR_WIDE_CONTINUATION", behind)?;
     Ok(())
 }
 

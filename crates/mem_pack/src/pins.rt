@@ -1,5 +1,5 @@
 //! The pins of the cell that holds a memory.
-ghost use Rattle.std.specs.Prelude.{◌≡◌, ◌++◌, IfOk, OnOk};
+ghost use Rattle.std.specs.Prelude.{◌≡◌, [], ◌∷◌, ◌++◌, IfOk, OnOk};
 ghost use Rattle.mem_pack.specs.Laws.{IsSmall};
 ghost use Rattle.mem_pack.specs.Packed as packed;
 
@@ -28,6 +28,19 @@ fn output(alloc: Global, name: &[u8], bits: List<Bit>) -> Result<Pin, Memory>
     })
 }
 
+/// Puts an input at the end.
+fn push_input(
+    alloc: Global,
+    list: &mut Vec<Pin>,
+    name: &[u8],
+    bits: List<Bit>,
+) -> Result<(), Memory>
+    ensures { OnOk result (list.new.items ≡ list.old.items ++ packed.input name.now bits ∷ []) }
+{
+    list.push(input(alloc, name, bits)?)?;
+    Ok(())
+}
+
 #[tactic(auto, unfolding(crate::specs::Packed::read_control_pins))]
 fn push_read_controls(alloc: Global, list: &mut Vec<Pin>, mem: &Mem) -> Result<(), Memory>
     requires { IsSmall mem.now }
@@ -35,9 +48,9 @@ fn push_read_controls(alloc: Global, list: &mut Vec<Pin>, mem: &Mem) -> Result<(
 {
     let reads = mem.reads.as_slice();
     let clocks = from_reads::read_clocks(alloc, reads)?;
+    push_input(alloc, list, b"\\RD_CLK", clocks)?;
     let en = from_reads::read_en(alloc, reads)?;
-    list.push(input(alloc, b"\\RD_CLK", clocks)?)?;
-    list.push(input(alloc, b"\\RD_EN", en)?)?;
+    push_input(alloc, list, b"\\RD_EN", en)?;
     Ok(())
 }
 
@@ -48,9 +61,9 @@ fn push_read_resets(alloc: Global, list: &mut Vec<Pin>, mem: &Mem) -> Result<(),
 {
     let reads = mem.reads.as_slice();
     let arst = from_reads::read_arst(alloc, reads)?;
+    push_input(alloc, list, b"\\RD_ARST", arst)?;
     let srst = from_reads::read_srst(alloc, reads)?;
-    list.push(input(alloc, b"\\RD_ARST", arst)?)?;
-    list.push(input(alloc, b"\\RD_SRST", srst)?)?;
+    push_input(alloc, list, b"\\RD_SRST", srst)?;
     Ok(())
 }
 
@@ -61,8 +74,8 @@ fn push_read_words(alloc: Global, list: &mut Vec<Pin>, mem: &Mem) -> Result<(), 
 {
     let reads = mem.reads.as_slice();
     let addr = from_reads::read_addr(alloc, reads)?;
+    push_input(alloc, list, b"\\RD_ADDR", addr)?;
     let words = from_reads::read_words(alloc, reads)?;
-    list.push(input(alloc, b"\\RD_ADDR", addr)?)?;
     list.push(output(alloc, b"\\RD_DATA", words)?)?;
     Ok(())
 }
@@ -74,9 +87,9 @@ fn push_write_controls(alloc: Global, list: &mut Vec<Pin>, mem: &Mem) -> Result<
 {
     let writes = mem.writes.as_slice();
     let clocks = from_writes::write_clocks(alloc, writes)?;
+    push_input(alloc, list, b"\\WR_CLK", clocks)?;
     let en = from_writes::write_en(alloc, writes)?;
-    list.push(input(alloc, b"\\WR_CLK", clocks)?)?;
-    list.push(input(alloc, b"\\WR_EN", en)?)?;
+    push_input(alloc, list, b"\\WR_EN", en)?;
     Ok(())
 }
 
@@ -87,9 +100,9 @@ fn push_write_words(alloc: Global, list: &mut Vec<Pin>, mem: &Mem) -> Result<(),
 {
     let writes = mem.writes.as_slice();
     let addr = from_writes::write_addr(alloc, writes)?;
+    push_input(alloc, list, b"\\WR_ADDR", addr)?;
     let words = from_writes::write_words(alloc, writes)?;
-    list.push(input(alloc, b"\\WR_ADDR", addr)?)?;
-    list.push(input(alloc, b"\\WR_DATA", words)?)?;
+    push_input(alloc, list, b"\\WR_DATA", words)?;
     Ok(())
 }
 

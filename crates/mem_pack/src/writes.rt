@@ -125,21 +125,24 @@ pub fn write_words(alloc: Global, writes: &[WrPort]) -> Result<List<Bit>, Memory
 }
 
 #[tactic(auto, unfolding(crate::specs::Lists::prio_rows))]
+fn prio_rows(alloc: Global, wides: &[u32], writes: &[WrPort]) -> Result<List<bool>, Memory>
+    requires wides { numbers wides.now ≤ 64 }
+    requires writes { numbers (lists.write_wides writes.now) ≤ 64 }
+    ensures { IfOk result (λ list. list ≡ lists.prio_rows wides.now writes.now) }
+{
+    let mut list = Vec::new(alloc);
+    let mut rest = writes;
+    while let [write, tail @ ..] = rest {
+        push_rows(&mut list, words(write.wide), wides, write.prio.as_slice())?;
+        rest = tail;
+    }
+    Ok(List::from_vec(list))
+}
+
 pub fn write_prio(alloc: Global, writes: &[WrPort]) -> Result<List<bool>, Memory>
     requires { numbers (lists.write_wides writes.now) ≤ 64 }
     ensures { IfOk result (λ list. list ≡ lists.write_prio writes.now) }
 {
     let wides = write_wides(alloc, writes)?;
-    let mut list = Vec::new(alloc);
-    let mut rest = writes;
-    while let [write, tail @ ..] = rest {
-        push_rows(
-            &mut list,
-            words(write.wide),
-            wides.as_slice(),
-            write.prio.as_slice(),
-        )?;
-        rest = tail;
-    }
-    Ok(List::from_vec(list))
+    prio_rows(alloc, wides.as_slice(), writes)
 }

@@ -11,7 +11,7 @@ use rtlil_text::{DocWire, Item};
 use std::alloc::Global;
 
 /// Ports that are looked for.
-#[derive(Clone, Copy, Debug, PartialEq, Eq)]
+#[derive(Clone, Copy)]
 pub enum Port {
     /// Inputs that are no outputs.
     Input,

@@ -29,7 +29,7 @@ use rtlil_text::DocCell;
 use std::alloc::Global;
 
 /// A cell, and what is counted behind it.
-#[derive(Debug, PartialEq, Eq, Drop)]
+#[derive(Drop)]
 pub(crate) struct Gain {
     pub cell: RawCell,
     pub counts: Counts,

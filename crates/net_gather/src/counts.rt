@@ -24,7 +24,7 @@ const MOST_PORTS: u32 = 64;
 const MOST_ABITS: u32 = 32;
 
 /// A memory that is declared, and the ports of single words that its cells have so far.
-#[derive(Clone, Copy, Debug, PartialEq, Eq)]
+#[derive(Clone, Copy)]
 pub struct Tally {
     /// The bits of a word.
     pub width: u32,
@@ -32,7 +32,7 @@ pub struct Tally {
 }
 
 /// What the wires and the cells so far have.
-#[derive(Debug, PartialEq, Eq, Drop)]
+#[derive(Drop)]
 pub struct Counts {
     /// The bits of wires and the open bits of pins.
     pub places: u32,
@@ -150,7 +150,7 @@ fn count_port(memories: &Places, tallies: List<Tally>, port: &PortRow) -> Result
 }
 
 /// The ports of memories, by the sides of the memories.
-#[derive(Debug, PartialEq, Eq, Drop)]
+#[derive(Drop)]
 struct Tallies {
     reads: List<Tally>,
     writes: List<Tally>,

@@ -13,7 +13,7 @@ use rtlil_text::{CellLine, Part};
 use std::alloc::Global;
 
 /// A pin of a cell as the file gives it.
-#[derive(Debug, PartialEq, Eq, Drop)]
+#[derive(Drop)]
 pub struct FilePin {
     pub name: Name,
     /// The bits, low bit first.

@@ -10,7 +10,7 @@ use net_wires::Source;
 use std::alloc::Global;
 
 /// The bits of a pin.
-#[derive(Debug, PartialEq, Eq, Drop)]
+#[derive(Drop)]
 pub enum PinBits {
     /// Those that the file gives, low bit first.
     Given(List<Source>),
@@ -19,7 +19,7 @@ pub enum PinBits {
 }
 
 /// A pin of a cell.
-#[derive(Debug, PartialEq, Eq, Drop)]
+#[derive(Drop)]
 pub struct OpenPin {
     pub name: Name,
     pub drives: bool,

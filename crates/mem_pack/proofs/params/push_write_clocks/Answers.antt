@@ -9,7 +9,7 @@ use Rattle.mem_pack.proofs.params.push_write_clocks.Goals as goal
 pub returns : goal.returns
 unfolding packed.write_clock_params
 returns c =
-    three_put _ _ _ _ _ _ _ _ _ _ c.in_ok-push.ensures.items c.in_ok-push-2.ensures.items c.in_ok-push-3.ensures.items
-    (c.in_ok-number_attr.ensures ∙ ap (λ x. number_attr (codes "\\WR_PORTS") x) (c.in_ok-count.ensures ∙ ap lists.write_numbers c.as_slice-writes.ensures))
-    (c.in_ok-flags_attr.ensures ∙ ap (λ x. packed.flags_attr (codes "\\WR_CLK_ENABLE") x) (c.in_ok-clocked.ensures ∙ ap lists.write_clocked c.as_slice-writes.ensures))
-    (c.in_ok-flags_attr-2.ensures ∙ ap (λ x. packed.flags_attr (codes "\\WR_CLK_POLARITY") x) (c.in_ok-rising.ensures ∙ ap lists.write_rising c.as_slice-writes.ensures))
+    three_put _ _ _ _ _ _ _ _ _ _ c.in_ok-push_number.ensures c.in_ok-push_flags.ensures c.in_ok-push_flags-2.ensures
+    (ap (λ x. number_attr (codes "\\WR_PORTS") x) (c.in_ok-count.ensures ∙ ap lists.write_numbers c.as_slice-writes.ensures))
+    (ap (λ x. packed.flags_attr (codes "\\WR_CLK_ENABLE") x) (c.in_ok-clocked.ensures ∙ ap lists.write_clocked c.as_slice-writes.ensures))
+    (ap (λ x. packed.flags_attr (codes "\\WR_CLK_POLARITY") x) (c.in_ok-rising.ensures ∙ ap lists.write_rising c.as_slice-writes.ensures))
