@@ -297,7 +297,7 @@ pub fn is_missing(known: &Names, ports: &[RawPort], sketch: &Sketch) -> bool
 }
 
 /// What the items of a variant say.
-#[derive(Debug)]
+#[derive(Debug, Drop)]
 pub struct Sizes {
     pub abits: u32,
     pub widths: List<u32>,
@@ -306,21 +306,6 @@ pub struct Sizes {
     pub cost: u32,
     pub fill: Fill,
     pub style: Option<Name>,
-}
-
-/// By a function of its own, so that whatever holds sizes drops them by one call.
-impl Drop for Sizes {
-    fn drop(self) {
-        let Sizes {
-            abits: _abits,
-            widths: _widths,
-            per_port: _per_port,
-            byte: _byte,
-            cost: _cost,
-            fill: _fill,
-            style: _style,
-        } = self;
-    }
 }
 
 impl Sizes {
