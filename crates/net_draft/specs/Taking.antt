@@ -35,5 +35,8 @@ with_mems taken [] = taken
 with_mems taken (m ∷ ms) = with_mems (with_name taken m.name) ms
 
 -- wires, and cells but for those of memories
+abbrev pub with_names : List (List ℕ) → Module → List (List ℕ)
+with_names taken m = with_carried (with_rams (with_regs (with_combs (with_wires taken m.wires) m.combs) m.regs) m.rams) m.carried
+
 abbrev pub taken_names : Module → List (List ℕ)
-taken_names m = with_carried (with_rams (with_regs (with_combs (with_wires [] m.wires) m.combs) m.regs) m.rams) m.carried
+taken_names m = with_names [] m

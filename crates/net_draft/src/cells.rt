@@ -3,6 +3,7 @@ ghost use Rattle.std.specs.Prelude.{◌≡◌, ◌++◌, map, IfOk, OnOk};
 ghost use Rattle.rtlil_text.specs.declared.doc.CellLine.TheVariants as line;
 ghost use Rattle.doc_params.specs.Docs.{doc_param};
 ghost use Rattle.net_draft.specs.Cells as spec;
+ghost use Rattle.net_draft.specs.Rams.{inverses_of};
 ghost use Rattle.net_draft.specs.Rows as rows;
 
 use crate::logic::comb_cell;
@@ -78,6 +79,26 @@ fn push_rams(
     Ok(())
 }
 
+/// Puts the cells of the RAMs of a module at the end.
+fn push_ram_cells(
+    alloc: Global,
+    cells: &mut Vec<Carried>,
+    lib: &Library,
+    module: &Module,
+) -> Result<(), Memory>
+    ensures { OnOk result (spec.AddsRamCells lib.now (inverses_of «module».now.nets «module».now.combs) «module».now.rams cells.old.items cells.new.items) }
+{
+    let inverses = inverses_of(alloc, module.nets, module.combs.as_slice())?;
+    push_rams(
+        alloc,
+        cells,
+        lib,
+        inverses.as_slice(),
+        module.rams.as_slice(),
+    )?;
+    Ok(())
+}
+
 /// The cells of a module but for those that it carries, each by its type, its parameters and its
 /// pins: logic cells, registers, memories and RAM cells.
 pub fn cells_of(
@@ -89,18 +110,11 @@ pub fn cells_of(
     requires { spec.AllFit «module».now.mems }
     ensures { IfOk result (λ cells. spec.AreCells lib.now taken.old «module».now cells.items taken.new) }
 {
-    let inverses = inverses_of(alloc, module.nets, module.combs.as_slice())?;
     let mut cells = Vec::new(alloc);
     push_combs(alloc, &mut cells, module.combs.as_slice())?;
     push_regs(alloc, &mut cells, module.regs.as_slice())?;
     push_mems(alloc, &mut cells, taken, module.mems.as_slice())?;
-    push_rams(
-        alloc,
-        &mut cells,
-        lib,
-        inverses.as_slice(),
-        module.rams.as_slice(),
-    )?;
+    push_ram_cells(alloc, &mut cells, lib, module)?;
     Ok(cells)
 }
 

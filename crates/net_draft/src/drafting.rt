@@ -1,6 +1,7 @@
 //! Designs and their modules as documents.
 ghost use Rattle.std.specs.Prelude.{◌≡◌, ◌++◌, codes, map, IfOk, OnOk};
-ghost use Rattle.net_draft.specs.Cells as cells;
+ghost use Rattle.net_draft.specs.Cells as drafted;
+ghost use Rattle.net_draft.specs.Connects.{connects};
 ghost use Rattle.net_draft.specs.Drafts as spec;
 ghost use Rattle.net_draft.specs.Naming as naming;
 ghost use Rattle.net_draft.specs.Taking as taking;
@@ -104,6 +105,39 @@ fn push_all_wires(
     Ok(())
 }
 
+/// Puts these cells, those that a module carries, and its connects at the end.
+fn push_cells_and_connects(
+    alloc: Global,
+    items: &mut Vec<Item>,
+    module: &Module,
+    sheet: &Sheet,
+    cells: &[Carried],
+) -> Result<(), Memory>
+    ensures { OnOk result (items.new.items ≡ ((items.old.items ++ drafted.cell_items sheet.now cells.now) ++ drafted.cell_items sheet.now «module».now.carried) ++ connects sheet.now 0 «module».now.wires) }
+{
+    push_cells(alloc, items, sheet, cells)?;
+    push_cells(alloc, items, sheet, module.carried.as_slice())?;
+    push_connects(alloc, items, sheet, module.wires.as_slice())?;
+    Ok(())
+}
+
+/// Wires, cells and connects, with the nets of the added wire.
+fn items_on(
+    alloc: Global,
+    module: &Module,
+    sheet: &Sheet,
+    name: &Name,
+    nets: &[u32],
+    cells: &[Carried],
+) -> Result<List<Item>, Memory>
+    ensures { IfOk result (λ items. items ≡ spec.items_on «module».now sheet.now name.now nets.now cells.now) }
+{
+    let mut items = Vec::new(alloc);
+    push_all_wires(alloc, &mut items, module, name, nets)?;
+    push_cells_and_connects(alloc, &mut items, module, sheet, cells)?;
+    Ok(List::from_vec(items))
+}
+
 /// What stands in the document of a module: wires, cells and connects.
 #[tactic(auto, unfolding(crate::specs::Drafts::items_of))]
 fn items_of(
@@ -116,12 +150,7 @@ fn items_of(
 {
     let nets = added_nets(alloc, module, cells)?;
     let sheet = sheet_of(alloc, module, name, nets.as_slice())?;
-    let mut items = Vec::new(alloc);
-    push_all_wires(alloc, &mut items, module, name, nets.as_slice())?;
-    push_cells(alloc, &mut items, &sheet, cells)?;
-    push_cells(alloc, &mut items, &sheet, module.carried.as_slice())?;
-    push_connects(alloc, &mut items, &sheet, module.wires.as_slice())?;
-    Ok(List::from_vec(items))
+    items_on(alloc, module, &sheet, name, nets.as_slice(), cells)
 }
 
 /// A module, with these cells beside those that it carries, as a document.
@@ -142,7 +171,7 @@ fn doc_module(
 
 /// A module whose memories fit as a document.
 fn draft_fitting(alloc: Global, module: &Module, lib: &Library) -> Result<DocModule, Memory>
-    requires { cells.AllFit «module».now.mems }
+    requires { drafted.AllFit «module».now.mems }
     ensures { IfOk result (spec.IsDrafted lib.now «module».now) }
 {
     let mut taken = taken_names(alloc, module)?;

@@ -8,7 +8,7 @@ use net_core::{Bit, Carried, Pin, Wire};
 use std::alloc::Global;
 
 /// A bit of a wire, by the place of the wire in the document.
-#[derive(Clone, Copy, Debug, PartialEq, Eq)]
+#[derive(Clone, Copy)]
 pub struct Home {
     pub wire: u32,
     pub bit: u32,

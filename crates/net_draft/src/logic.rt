@@ -3,7 +3,7 @@ ghost use Rattle.std.specs.Prelude.{◌≡◌, ◌++◌, length, IfOk, OnOk};
 ghost use Rattle.net_draft.specs.Rows as spec;
 
 use crate::counts::count_of;
-use crate::pins::{nets_as_bits, no_attrs, pin};
+use crate::pins::{add_pin, nets_as_bits, no_attrs};
 use cell_rows::{CombRow, Operands, comb_params, operands_of};
 use cell_table::comb_type;
 use lib_core::{Duplicate, List, Memory, Name};
@@ -81,7 +81,8 @@ fn push_if(
     ensures { OnOk result (pins.new.items ≡ pins.old.items ++ spec.input_if has name.now bits.now) }
 {
     if has {
-        pins.push(pin(alloc, name, false, bits.duplicate(alloc)?)?)?;
+        let bits = bits.duplicate(alloc)?;
+        add_pin(alloc, pins, name, false, bits)?;
     }
     Ok(())
 }
@@ -115,7 +116,7 @@ fn comb_pins_of(alloc: Global, comb: &Comb) -> Result<List<Pin>, Memory>
     push_if(alloc, &mut pins, has_b(operands), b"\\B", &comb.b)?;
     push_if(alloc, &mut pins, has_s(operands), b"\\S", &comb.s)?;
     let y = nets_as_bits(alloc, comb.y.as_slice())?;
-    pins.push(pin(alloc, b"\\Y", true, y)?)?;
+    add_pin(alloc, &mut pins, b"\\Y", true, y)?;
     Ok(List::from_vec(pins))
 }
 
@@ -128,8 +129,8 @@ pub fn comb_cell(alloc: Global, comb: &Comb) -> Result<Carried, Memory>
     Ok(Carried {
         name: comb.name.copy(alloc)?,
         kind: Name::from_vec(Vec::from_slice(alloc, comb_type(comb.kind))?),
-        attrs: no_attrs(alloc),
         params: comb_params(alloc, &row)?,
         pins: comb_pins_of(alloc, comb)?,
+        attrs: no_attrs(alloc),
     })
 }

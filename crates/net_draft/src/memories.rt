@@ -42,6 +42,7 @@ pub fn mem_cell(alloc: Global, taken: &mut Taken, mem: &Mem) -> Result<Carried, 
     ensures cell { IfOk result (spec.IsMemCell taken.old mem.now) }
     ensures taken { IfOk result (λ cell. taken.new ≡ naming.with_name taken.old cell.name) }
 {
+    let name = taken.fresh(alloc, mem.name.as_slice())?;
     let MemPart {
         name: _,
         kind,
@@ -50,7 +51,7 @@ pub fn mem_cell(alloc: Global, taken: &mut Taken, mem: &Mem) -> Result<Carried, 
         pins,
     } = part_of(alloc, mem)?;
     Ok(Carried {
-        name: taken.fresh(alloc, mem.name.as_slice())?,
+        name,
         kind,
         attrs,
         params,

@@ -1,5 +1,5 @@
 //! Pins.
-ghost use Rattle.std.specs.Prelude.{◌≡◌, ◌∷◌, [], IfOk};
+ghost use Rattle.std.specs.Prelude.{◌≡◌, ◌∷◌, ◌++◌, [], IfOk, OnOk};
 ghost use Rattle.net_draft.specs.Rows as spec;
 
 use lib_core::{List, Memory, Name};
@@ -36,7 +36,7 @@ fn each_bit(alloc: Global, nets: &[u32]) -> Result<Vec<Bit>, Memory>
 }
 
 /// A pin.
-pub fn pin(alloc: Global, name: &[u8], drives: bool, bits: List<Bit>) -> Result<Pin, Memory>
+fn pin(alloc: Global, name: &[u8], drives: bool, bits: List<Bit>) -> Result<Pin, Memory>
     ensures { IfOk result (λ pin. pin ≡ record { name = name.now; drives = drives; bits = bits }) }
 {
     Ok(Pin {
@@ -44,4 +44,18 @@ pub fn pin(alloc: Global, name: &[u8], drives: bool, bits: List<Bit>) -> Result<
         drives,
         bits,
     })
+}
+
+/// Puts a pin at the end.
+pub fn add_pin(
+    alloc: Global,
+    pins: &mut Vec<Pin>,
+    name: &[u8],
+    drives: bool,
+    bits: List<Bit>,
+) -> Result<(), Memory>
+    ensures { OnOk result (pins.new.items ≡ pins.old.items ++ record { name = name.now; drives = drives; bits = bits } ∷ []) }
+{
+    pins.push(pin(alloc, name, drives, bits)?)?;
+    Ok(())
 }

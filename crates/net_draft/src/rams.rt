@@ -315,9 +315,9 @@ fn variant_cell(
     Ok(Carried {
         name: cell.name.copy(alloc)?,
         kind: ram.copy(alloc)?,
-        attrs: no_attrs(alloc),
         params: ram_params(alloc, variant, cell)?,
         pins: groups_pins(alloc, inverses, variant, cell.slots.as_slice())?,
+        attrs: no_attrs(alloc),
     })
 }
 

@@ -1,13 +1,14 @@
 //! Registers by their types, parameters and pins.
 ghost use Rattle.std.specs.Prelude.{◌≡◌, ◌++◌, ◌∷◌, [], IfOk, OnOk};
+ghost use Rattle.cell_rows.specs.Written.{reg_params};
 ghost use Rattle.net_draft.specs.Rows as spec;
 
 use crate::counts::count_of;
-use crate::pins::{nets_as_bits, no_attrs, one_bit, pin};
+use crate::pins::{add_pin, nets_as_bits, no_attrs, one_bit};
 use cell_rows::{Controls, RegRow, has_arst, has_enable, has_srst, reg_params};
 use cell_table::ff_type;
 use lib_core::{Duplicate, List, Memory, Name};
-use net_core::{Bit, Carried, Clock, Pin, Reg};
+use net_core::{Attr, Bit, Carried, Clock, Pin, Reg};
 use std::alloc::Global;
 
 /// The bit at a clock pin: the root, and 0 for a clock that never ticks.
@@ -67,7 +68,8 @@ fn push_bit_if(
     ensures { OnOk result (pins.new.items ≡ pins.old.items ++ spec.input_if has name.now (bit ∷ [])) }
 {
     if has {
-        pins.push(pin(alloc, name, false, one_bit(alloc, bit)?)?)?;
+        let bits = one_bit(alloc, bit)?;
+        add_pin(alloc, pins, name, false, bits)?;
     }
     Ok(())
 }
@@ -78,10 +80,11 @@ fn push_data(alloc: Global, pins: &mut Vec<Pin>, reg: &Reg) -> Result<(), Memory
     ensures { OnOk result (pins.new.items ≡ pins.old.items ++ spec.data_pins reg.now) }
 {
     let clock = one_bit(alloc, root_bit(reg.clock))?;
+    add_pin(alloc, pins, b"\\CLK", false, clock)?;
+    let d = reg.d.duplicate(alloc)?;
+    add_pin(alloc, pins, b"\\D", false, d)?;
     let q = nets_as_bits(alloc, reg.q.as_slice())?;
-    pins.push(pin(alloc, b"\\CLK", false, clock)?)?;
-    pins.push(pin(alloc, b"\\D", false, reg.d.duplicate(alloc)?)?)?;
-    pins.push(pin(alloc, b"\\Q", true, q)?)?;
+    add_pin(alloc, pins, b"\\Q", true, q)?;
     Ok(())
 }
 
@@ -98,17 +101,23 @@ fn reg_pins_of(alloc: Global, reg: &Reg) -> Result<List<Pin>, Memory>
     Ok(List::from_vec(pins))
 }
 
+fn params_of(alloc: Global, reg: &Reg) -> Result<List<Attr>, Memory>
+    ensures { IfOk result (λ params. params ≡ reg_params (spec.reg_row_of reg.now)) }
+{
+    let row = reg_row_of(alloc, reg)?;
+    reg_params(alloc, &row)
+}
+
 /// A register by its type, its parameters and its pins.
 #[tactic(auto, unfolding(crate::specs::Rows::reg_cell))]
 pub fn reg_cell(alloc: Global, reg: &Reg) -> Result<Carried, Memory>
     ensures { IfOk result (λ cell. cell ≡ spec.reg_cell reg.now) }
 {
-    let row = reg_row_of(alloc, reg)?;
     Ok(Carried {
         name: reg.name.copy(alloc)?,
         kind: Name::from_vec(Vec::from_slice(alloc, ff_type(reg.kind))?),
-        attrs: no_attrs(alloc),
-        params: reg_params(alloc, &row)?,
+        params: params_of(alloc, reg)?,
         pins: reg_pins_of(alloc, reg)?,
+        attrs: no_attrs(alloc),
     })
 }

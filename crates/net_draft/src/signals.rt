@@ -10,21 +10,21 @@ use rtlil_text::{Digit, DocConst, Part};
 use std::alloc::Global;
 
 /// A wire as signals name it.
-#[derive(Debug, Drop)]
+#[derive(Drop)]
 pub struct Face {
     pub name: Name,
     pub width: u32,
 }
 
 /// The wires of a document, and the bits of them at which nets are at home.
-#[derive(Debug, Drop)]
+#[derive(Drop)]
 pub struct Sheet {
     pub faces: List<Face>,
     pub homes: List<Option<Home>>,
 }
 
 /// What stands at a bit of a signal.
-#[derive(Clone, Copy, Debug, PartialEq, Eq)]
+#[derive(Clone, Copy)]
 pub enum Spot {
     Digit(Digit),
     At(Home),

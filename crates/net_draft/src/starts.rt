@@ -11,7 +11,7 @@ use net_core::{Attr, Bit, Carried, Pin, Reg, Wire};
 use std::alloc::Global;
 
 /// What wires say of the start of a net.
-#[derive(Clone, Copy, Debug, PartialEq, Eq)]
+#[derive(Clone, Copy)]
 pub enum Start {
     /// This value.
     Is(Tri),

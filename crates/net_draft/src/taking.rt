@@ -80,15 +80,23 @@ pub fn take_mems(alloc: Global, taken: &mut Taken, mems: &[Mem]) -> Result<(), M
     Ok(())
 }
 
+/// Takes the names of a module's wires, and of its cells but for those of memories.
+fn take_names(alloc: Global, taken: &mut Taken, module: &Module) -> Result<(), Memory>
+    ensures { OnOk result (taken.new ≡ spec.with_names taken.old «module».now) }
+{
+    take_wires(alloc, taken, module.wires.as_slice())?;
+    take_combs(alloc, taken, module.combs.as_slice())?;
+    take_regs(alloc, taken, module.regs.as_slice())?;
+    take_rams(alloc, taken, module.rams.as_slice())?;
+    take_carried(alloc, taken, module.carried.as_slice())?;
+    Ok(())
+}
+
 /// The names of a module's wires, and of its cells but for those of memories.
 pub fn taken_names(alloc: Global, module: &Module) -> Result<Taken, Memory>
     ensures { IfOk result (λ taken. taken ≡ spec.taken_names «module».now) }
 {
     let mut taken = Taken::new(alloc);
-    take_wires(alloc, &mut taken, module.wires.as_slice())?;
-    take_combs(alloc, &mut taken, module.combs.as_slice())?;
-    take_regs(alloc, &mut taken, module.regs.as_slice())?;
-    take_rams(alloc, &mut taken, module.rams.as_slice())?;
-    take_carried(alloc, &mut taken, module.carried.as_slice())?;
+    take_names(alloc, &mut taken, module)?;
     Ok(taken)
 }
