@@ -54,6 +54,8 @@ around_composes a b c f g = record {
   name = g.name ∙ f.name;
   attrs = g.attrs ∙ f.attrs;
   wires = g.wires ∙ f.wires;
+  declared = g.declared ∙ f.declared;
+  parts = g.parts ∙ f.parts;
   rams = g.rams ∙ f.rams;
   carried = g.carried ∙ f.carried;
 }

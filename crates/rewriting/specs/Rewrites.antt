@@ -49,6 +49,8 @@ pub record StandsAround (old new : Module) : Type 0 where
   pub name : new.name ≡ old.name
   pub attrs : new.attrs ≡ old.attrs
   pub wires : new.wires ≡ old.wires
+  pub declared : new.declared ≡ old.declared
+  pub parts : new.parts ≡ old.parts
   pub rams : new.rams ≡ old.rams
   pub carried : new.carried ≡ old.carried
 
