@@ -1,5 +1,5 @@
-//! Tests of lists, libraries and logic cells, and of what reads, builds and prints. They stand apart, so
-//! that those crates are proved once; this library has nothing else.
+//! Tests of what no command shows: copies, variants of libraries, rows of cells, counts of limits, documents
+//! without a text. They stand apart, so that those crates are proved once; this library has nothing else.
 #![tactic(auto)]
 
 #[cfg(test)]
@@ -10,12 +10,6 @@ mod fixtures;
 mod kinds;
 #[cfg(test)]
 mod libraries;
-#[cfg(test)]
-mod logic;
-#[cfg(test)]
-mod loops;
-#[cfg(test)]
-mod printing;
 #[cfg(test)]
 mod values;
 #[cfg(test)]

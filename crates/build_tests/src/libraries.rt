@@ -1,16 +1,9 @@
-//! Libraries that are read and refused.
+//! What counts in the variants of a library, and the line of a fault.
 use lib_core::{Fill, Group, Library, OwnWrite, Seen, SrstGate, Trans, Variant};
 use lib_read::{LibCode, LibFault, read_library};
 use std::alloc::Global;
 use std::process::Abort;
 use std::test::Fail;
-
-const LUTS: &[u8] = b"ram distributed $__R16X4_ {
-    abits 4; width 4;
-    cost 4; init any;
-    port sw \"W\" { clock posedge; }
-    port ar \"R\" { }
-}";
 
 const BLOCK: &[u8] = b"# One read, one write.
 ram block $__B4K_ {
@@ -21,26 +14,6 @@ ram block $__B4K_ {
     port sw \"W\" { clock anyedge; }
 }
 ";
-
-const PARITY: &[u8] = b"ram block $__B36_ {
-    abits 9; width 36; byte 9; cost 64; init any;
-    port sr \"R\" { clock anyedge; rden; } port sw \"W\" { clock anyedge; }
-}";
-
-const TWO_WRITES: &[u8] = b"ram block $__B4K_ {
-    abits 11; widths 2 4 8 16 per_port; cost 64; init any;
-    port sr \"R\" { clock anyedge; rden; } port sw \"W\" \"V\" { clock anyedge; }
-}";
-
-const ALWAYS_READS: &[u8] = b"ram block $__B4K_ {
-    abits 11; widths 2 4 8 16 per_port; cost 64; init any;
-    port sr \"R\" { clock anyedge; } port sw \"W\" { clock anyedge; }
-}";
-
-const ONE_PORT: &[u8] = b"ram block $__SP_ {
-    abits 9; width 8; cost 32; init any;
-    port srsw \"A\" { clock posedge; rden; rdwr no_change; }
-}";
 
 const RICH: &[u8] = b"ram huge $__X_ {
     abits 10; widths 8 16 global; byte 8; style \"deep\";
@@ -56,40 +29,8 @@ const RICH: &[u8] = b"ram huge $__X_ {
     port sw \"C\" { clock posedge; wrtrans all old; }
 }";
 
-const ODD_WIDTHS: &[u8] = b"ram block $a {
-    abits 4; widths 1 2 4 9 18 per_port; port ar \"R\" { }
-}";
-
-const CELL_NAME: &[u8] = b"ram block $mem_v2 { abits 4; width 4; port ar \"R\" { } }";
-
-const TWO_COSTS: &[u8] = b"ram block $a {
-    abits 4; width 4; cost 4; option \"FAST\" 1 { cost 6; }
-    port ar \"R\" { }
-}";
-
-const WRITE_WITH_RDEN: &[u8] = b"ram block $a {
-    abits 4;
-    width 4;
-    port sw \"W\" {
-        clock posedge;
-        rden;
-    }
-}";
-
-const FOURFOLD: &[u8] = b"
-ram block $a { abits 4; widths 1 2 8 per_port; port ar \"R\" { } }";
-
 const SECOND_RAM: &[u8] = b"ram block $a { abits 4; width 4; port ar \"R\" { } }
 ram block $b { abits 21; width 4; port ar \"R\" { } }";
-
-const SAME_NAME: &[u8] = b"ram block $a { abits 4; width 4; port ar \"R\" { } }
-ram block
-$a { abits 4; width 4; port ar \"R\" { } }";
-
-const NO_TARGET: &[u8] = b"ram block $a {
-    abits 4; width 4;
-    port sw \"W\" { clock posedge; wrprio \"V\"; }
-}";
 
 const MANY: &[u8] = b"ram block $a {
     abits 4; width 4; port ar \"R\" { }
@@ -140,25 +81,6 @@ fn first_group(variant: &Variant) -> Option<&Group> {
 }
 
 #[test]
-fn libraries_are_read(rt: HostRuntime) -> Result<(), Fail> {
-    let alloc = rt.alloc();
-    let cases: [(&[u8], (usize, usize)); 8] = [
-        (LUTS, (1, 2)),
-        (BLOCK, (1, 2)),
-        (PARITY, (1, 2)),
-        (TWO_WRITES, (1, 2)),
-        (ALWAYS_READS, (1, 2)),
-        (ONE_PORT, (1, 1)),
-        (RICH, (6, 2)),
-        (ODD_WIDTHS, (1, 1)),
-    ];
-    for (text, wanted) in cases {
-        assert_eq!(rt; shape(&read(alloc, text)?), Some(wanted));
-    }
-    Ok(())
-}
-
-#[test]
 fn variants_say_what_counts(rt: HostRuntime) {
     let Ok(library) = read(rt.alloc(), RICH) else {
         assert!(rt; false);
@@ -185,17 +107,12 @@ fn variants_say_what_counts(rt: HostRuntime) {
 }
 
 #[test]
-fn faults_are_found(rt: HostRuntime) {
+fn limits_have_counts(rt: HostRuntime) -> Result<(), Fail> {
     let alloc = rt.alloc();
-    refused(&rt, alloc, CELL_NAME, 1, LibCode::Twice, 0);
-    refused(&rt, alloc, TWO_COSTS, 1, LibCode::Twice, 0);
-    refused(&rt, alloc, WRITE_WITH_RDEN, 6, LibCode::NotForKind, 0);
-    refused(&rt, alloc, FOURFOLD, 2, LibCode::BadWidths, 0);
+    assert_eq!(rt; shape(&read(alloc, RICH)?), Some((6, 2)));
     refused(&rt, alloc, MANY, 1, LibCode::Limit, 257);
-    refused(&rt, alloc, b"budget block 4;", 1, LibCode::UnknownWord, 0);
     refused(&rt, alloc, SECOND_RAM, 2, LibCode::Limit, 21);
-    refused(&rt, alloc, SAME_NAME, 2, LibCode::Twice, 0);
-    refused(&rt, alloc, NO_TARGET, 1, LibCode::Missing, 0);
+    Ok(())
 }
 
 #[test]

@@ -12,8 +12,6 @@ mod refusing;
 mod simulating;
 pub mod status;
 mod subject;
-#[cfg(test)]
-mod tests;
 mod texts;
 pub mod top;
 

@@ -1,6 +1,6 @@
 //! Texts, and how they are made of pieces.
 use crate::fault::{Halt, Wrong};
-use crate::line::{Line, Piece, Form};
+use crate::line::{Form, Line, Piece};
 use std::alloc::{AllocError, Global};
 
 /// A text and its name.

@@ -13,13 +13,21 @@ pub enum Piece<'a> {
         fed: bool,
     },
     /// Another text.
-    Copy { name: &'a [u8] },
+    Copy {
+        name: &'a [u8],
+    },
     /// Cuts what stands behind a line.
-    Upto { line: &'a [u8] },
+    Upto {
+        line: &'a [u8],
+    },
     /// Takes a line out.
-    Out { line: &'a [u8] },
+    Out {
+        line: &'a [u8],
+    },
     /// Puts a line in the place of one that was taken out.
-    In { line: &'a [u8] },
+    In {
+        line: &'a [u8],
+    },
 }
 
 /// What a line says.

@@ -11,17 +11,16 @@ mod running;
 mod tally;
 mod telling;
 
-use crate::draft::NamedText;
 use crate::fault::Halt;
 use crate::reading::read_rows;
-use crate::tally::{Tally, append_fault, append_last, run_rows};
+use crate::row::Row;
+use crate::tally::{append_fault, append_last, run_rows};
 use flow_io::{Desk, HostDesk};
 use std::alloc::{AllocError, Global};
 use std::env::Args;
 use std::io::Write;
 use std::process::ExitCode;
 use std::rt::Files;
-use std::thread::Threads;
 use std::{env, io};
 
 /// The greatest number of bytes of a file of rows.
@@ -36,40 +35,42 @@ fn words_of(alloc: Global, args: Args) -> Result<Vec<String>, AllocError> {
     Ok(words)
 }
 
-/// Runs the rows of all files, up to the first that can't be taken, and tells what did not hold.
-fn run_files<R: Files + Threads + Sync>(
+/// Reads the rows of all files. The answer is false, and what is wrong is told, where one can't be taken.
+fn read_files<R: Files>(
     rt: &R,
     alloc: Global,
     files: &[String],
+    rows: &mut Vec<Row>,
     report: &mut Vec<u8>,
-) -> Result<Tally, AllocError> {
+) -> Result<bool, AllocError> {
     let mut desk = HostDesk::new(rt);
     let mut texts = Vec::new(alloc);
-    let mut names = Vec::new(alloc);
-    let mut tally = Tally { held: 0, failed: 0 };
     for file in files {
         let Ok(bytes) = desk.read_file(alloc, file.as_str(), FILE_BYTES) else {
             append_fault(alloc, report, file.as_str(), 0, "it can't be read")?;
-            return Ok(tally.with_failed());
+            return Ok(false);
         };
-        match read_rows(alloc, bytes.as_slice(), &mut texts, &mut names) {
-            Ok(rows) => tally = run_rows(rt, alloc, rows, tally, report)?,
+        match read_rows(alloc, bytes.as_slice(), &mut texts, rows) {
+            Ok(()) => {}
             Err(Halt::Memory) => return Err(AllocError),
             Err(Halt::Wrong { line, wrong }) => {
                 append_fault(alloc, report, file.as_str(), line, wrong.words())?;
-                return Ok(tally.with_failed());
+                return Ok(false);
             }
         }
     }
-    Ok(tally)
+    Ok(true)
 }
 
 fn main(rt: HostRuntime) -> io::Result<ExitCode> {
     let alloc = rt.alloc();
     let files = words_of(alloc, env::args(&rt)?)?;
     let mut report = Vec::new(alloc);
-    let tally = run_files(&rt, alloc, files.as_slice(), &mut report)?;
+    let mut rows = Vec::new(alloc);
+    let taken = read_files(&rt, alloc, files.as_slice(), &mut rows, &mut report)?;
+    let tally = run_rows(&rt, alloc, rows, &mut report)?;
     append_last(alloc, &mut report, tally)?;
     rt.stdout().write_all(report.as_slice())?;
-    Ok(ExitCode::from(if tally.failed == 0 { 0 } else { 1 }))
+    let held = taken && tally.failed == 0;
+    Ok(ExitCode::from(if held { 0 } else { 1 }))
 }

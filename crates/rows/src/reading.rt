@@ -16,6 +16,14 @@ fn name_of(alloc: Global, bytes: &[u8]) -> Result<Name, AllocError> {
     Ok(Name::from_vec(Vec::from_slice(alloc, bytes)?))
 }
 
+/// The text of bytes of a line.
+fn string_of(alloc: Global, line: &Line<'_>, bytes: &[u8]) -> Result<String, Halt> {
+    let Ok(text) = str::from_utf8(bytes) else {
+        return Err(line.halt(Wrong::Word));
+    };
+    Ok(String::from_str(alloc, text)?)
+}
+
 /// A row that says nothing yet.
 fn new_row(alloc: Global, name: &[u8]) -> Result<Row, AllocError> {
     Ok(Row {
@@ -27,24 +35,9 @@ fn new_row(alloc: Global, name: &[u8]) -> Result<Row, AllocError> {
             status: 0,
             line: List::from_vec(Vec::new(alloc)),
             files: List::from_vec(Vec::new(alloc)),
+            absent: List::from_vec(Vec::new(alloc)),
         },
     })
-}
-
-/// How many of the first lines are pieces of a text.
-fn piece_count(lines: &[Line<'_>]) -> usize {
-    lines
-        .iter()
-        .position(|line| !line.is_piece())
-        .unwrap_or(lines.len())
-}
-
-/// How many of the first lines stand before the next text or row.
-fn block_count(lines: &[Line<'_>]) -> usize {
-    lines
-        .iter()
-        .position(|line| line.is_head())
-        .unwrap_or(lines.len())
 }
 
 impl Row {
@@ -91,30 +84,35 @@ impl Row {
         self.before.push(file).map_err(|_| Halt::Memory)
     }
 
-    /// Enters what is told of a file.
-    fn tell(&mut self, alloc: Global, file: &[u8], bytes: Option<List<u8>>) -> Result<(), Halt> {
-        let file = ToldFile {
-            name: name_of(alloc, file)?,
-            bytes,
-        };
-        self.told.files.push(file).map_err(|_| Halt::Memory)
+    /// Enters what a file is to hold.
+    fn tell(
+        &mut self,
+        alloc: Global,
+        line: &Line<'_>,
+        file: &[u8],
+        bytes: Vec<u8>,
+    ) -> Result<(), Halt> {
+        let name = string_of(alloc, line, file)?;
+        let bytes = List::from_vec(bytes);
+        let told = ToldFile { name, bytes };
+        self.told.files.push(told).map_err(|_| Halt::Memory)
     }
 
     /// Enters files that are not there.
-    fn miss(&mut self, alloc: Global, files: &[u8]) -> Result<(), Halt> {
+    fn miss(&mut self, alloc: Global, line: &Line<'_>, files: &[u8]) -> Result<(), Halt> {
         for file in files.split(|byte| *byte == b' ') {
-            self.tell(alloc, file, None)?;
+            let name = string_of(alloc, line, file)?;
+            self.told.absent.push(name).map_err(|_| Halt::Memory)?;
         }
         Ok(())
     }
 
-    /// Whether the row tells of a file.
+    /// Whether the row tells what a file is to hold, or that it is not there.
     fn tells(&self, file: &[u8]) -> bool {
-        self.told
-            .files
-            .as_slice()
-            .iter()
-            .any(|told| told.name.as_slice() == file)
+        let files = self.told.files.as_slice();
+        let absent = self.told.absent.as_slice();
+        files.iter().any(|told| told.name.as_bytes() == file)
+            || absent.iter().any(|name| name.as_bytes() == file)
     }
 
     /// Whether the row tells of a file that a word names. A number names none.
@@ -123,13 +121,13 @@ impl Row {
     }
 
     /// Tells of each file that stands before and of which nothing is told that it is as it was.
-    fn keep(&mut self, alloc: Global) -> Result<(), Halt> {
+    fn keep(&mut self, alloc: Global, head: &Line<'_>) -> Result<(), Halt> {
         let mut kept = Vec::new(alloc);
         for file in self.before.as_slice() {
             if !self.tells(file.name.as_slice()) {
                 kept.push(ToldFile {
-                    name: name_of(alloc, file.name.as_slice())?,
-                    bytes: Some(bytes_of(alloc, file.bytes.as_slice())?),
+                    name: string_of(alloc, head, file.name.as_slice())?,
+                    bytes: bytes_of(alloc, file.bytes.as_slice())?,
                 })?;
             }
         }
@@ -165,13 +163,13 @@ impl Row {
         let text = text_of(alloc, pieces, texts)?;
         match line.form {
             Form::After { file } => {
-                return self.tell(alloc, file, Some(List::from_vec(text)));
+                return self.tell(alloc, line, file, text);
             }
             Form::Half { file } => {
                 let half = text.len() / 2;
                 let mut text = text;
                 text.truncate(half);
-                return self.tell(alloc, file, Some(List::from_vec(text)));
+                return self.tell(alloc, line, file, text);
             }
             _ => {}
         }
@@ -182,7 +180,7 @@ impl Row {
             Form::Words { words } => self.command(alloc, line, words),
             Form::Fails { calls } => self.fail(line, calls),
             Form::Before { file, text } => self.give(alloc, line, file, text, texts),
-            Form::Absent { files } => self.miss(alloc, files),
+            Form::Absent { files } => self.miss(alloc, line, files),
             Form::Status { status } => {
                 self.told.status = status;
                 Ok(())
@@ -207,13 +205,12 @@ fn row_of(
     texts: &[NamedText],
 ) -> Result<Row, Halt> {
     let mut row = new_row(alloc, name)?;
-    let mut rest = lines;
-    while let [line, tail @ ..] = rest {
-        let (pieces, others) = tail.split_at(piece_count(tail));
-        row.take(alloc, line, pieces, texts)?;
-        rest = others;
+    for part in lines.chunk_by(|_, next| next.is_piece()) {
+        if let [line, pieces @ ..] = part {
+            row.take(alloc, line, pieces, texts)?;
+        }
     }
-    row.keep(alloc)?;
+    row.keep(alloc, head)?;
     if row.commands.is_empty() {
         return Err(head.halt(Wrong::NoCommand));
     }
@@ -223,37 +220,45 @@ fn row_of(
     Ok(row)
 }
 
-/// Reads a file: its texts stand behind those of earlier files, and its rows are the answer.
+/// Enters the text that lines make under a name.
+fn enter_text(
+    alloc: Global,
+    head: &Line<'_>,
+    name: &[u8],
+    lines: &[Line<'_>],
+    texts: &mut Vec<NamedText>,
+) -> Result<(), Halt> {
+    if text_named(texts.as_slice(), name).is_some() {
+        return Err(head.halt(Wrong::NameTwice));
+    }
+    let bytes = text_of(alloc, lines, texts.as_slice())?;
+    let name = Vec::from_slice(alloc, name)?;
+    texts.push(NamedText { name, bytes })?;
+    Ok(())
+}
+
+/// Reads a file: its texts stand behind those of earlier files, and its rows behind earlier rows.
 pub fn read_rows(
     alloc: Global,
     bytes: &[u8],
     texts: &mut Vec<NamedText>,
-    names: &mut Vec<Name>,
-) -> Result<Vec<Row>, Halt> {
+    rows: &mut Vec<Row>,
+) -> Result<(), Halt> {
     let lines = lines_of(alloc, bytes)?;
-    let mut rows = Vec::new(alloc);
-    let mut rest = lines.as_slice();
-    while let [head, tail @ ..] = rest {
-        let (block, others) = tail.split_at(block_count(tail));
+    for block in lines.as_slice().chunk_by(|_, next| !next.is_head()) {
+        let [head, rest @ ..] = block else {
+            continue;
+        };
         match head.form {
-            Form::Text { name } => {
-                if text_named(texts.as_slice(), name).is_some() {
-                    return Err(head.halt(Wrong::NameTwice));
-                }
-                let bytes = text_of(alloc, block, texts.as_slice())?;
-                let name = Vec::from_slice(alloc, name)?;
-                texts.push(NamedText { name, bytes })?;
-            }
+            Form::Text { name } => enter_text(alloc, head, name, rest, texts)?,
             Form::Row { name } => {
-                if names.iter().any(|other| other.as_slice() == name) {
+                if rows.iter().any(|row| row.name.as_slice() == name) {
                     return Err(head.halt(Wrong::NameTwice));
                 }
-                names.push(name_of(alloc, name)?)?;
-                rows.push(row_of(alloc, head, name, block, texts.as_slice())?)?;
+                rows.push(row_of(alloc, head, name, rest, texts.as_slice())?)?;
             }
             _ => return Err(head.halt(Wrong::Place)),
         }
-        rest = others;
     }
-    Ok(rows)
+    Ok(())
 }

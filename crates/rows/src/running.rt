@@ -1,20 +1,10 @@
 //! Running the commands of a row.
-use crate::row::Row;
+use crate::row::Seen;
 use flow_io::MemDesk;
 use flow_top::{Status, refusal_line, run};
 use lib_core::{List, Memory};
 use std::alloc::Global;
 use std::thread::Threads;
-
-/// What is seen of the last command that ran.
-#[derive(Drop)]
-pub struct Seen {
-    /// How many commands stood behind it and did not run.
-    pub left: u64,
-    pub status: u8,
-    /// The line on standard error.
-    pub line: List<u8>,
-}
 
 /// The line that a command's status leaves on standard error.
 fn error_line(alloc: Global, status: &Status) -> Result<List<u8>, Memory> {

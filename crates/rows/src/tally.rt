@@ -2,7 +2,7 @@
 use crate::comparing::holds;
 use crate::row::Row;
 use crate::running::run_all;
-use crate::telling::difference;
+use crate::telling::append_row;
 use flow_io::MemDesk;
 use std::alloc::{AllocError, Global};
 use std::thread::Threads;
@@ -54,8 +54,7 @@ fn run_row<R: Threads + Sync>(
     if holds(&told, &seen, &desk) {
         return Ok(tally.with_held());
     }
-    let text = difference(alloc, &name, &told, &seen, &desk)?;
-    report.extend_from_slice(text.as_slice())?;
+    append_row(alloc, report, &name, &told, &seen, &desk)?;
     Ok(tally.with_failed())
 }
 
@@ -64,10 +63,9 @@ pub fn run_rows<R: Threads + Sync>(
     rt: &R,
     alloc: Global,
     rows: Vec<Row>,
-    tally: Tally,
     report: &mut Vec<u8>,
 ) -> Result<Tally, AllocError> {
-    let mut tally = tally;
+    let mut tally = Tally { held: 0, failed: 0 };
     for row in rows {
         tally = run_row(rt, alloc, row, tally, report)?;
     }

@@ -1,21 +1,26 @@
 //! The first difference of a row, in words.
-use crate::comparing::is_as_told;
-use crate::row::{Told, ToldFile};
-use crate::running::Seen;
+use crate::comparing::{is_absent, stands};
+use crate::row::{Seen, Told, ToldFile};
 use flow_io::MemDesk;
 use lib_core::Name;
 use std::alloc::{AllocError, Global};
-use std::str;
 
-/// Appends pieces.
-fn append(text: &mut Vec<u8>, pieces: &[&[u8]]) -> Result<(), AllocError> {
-    for piece in pieces {
-        text.extend_from_slice(*piece)?;
-    }
-    Ok(())
+/// Appends the name of a file.
+fn append_name(text: &mut Vec<u8>, name: &[u8]) -> Result<(), AllocError> {
+    text.extend_from_slice(b"file ")?;
+    text.extend_from_slice(name)
 }
 
-/// The first line that differs: its number, and the line of both.
+/// Appends a line that was wanted and one that was seen.
+fn append_pair(text: &mut Vec<u8>, wanted: &[u8], seen: &[u8]) -> Result<(), AllocError> {
+    text.extend_from_slice(b"\n  wanted: ")?;
+    text.extend_from_slice(wanted)?;
+    text.extend_from_slice(b"\n  seen: ")?;
+    text.extend_from_slice(seen)?;
+    text.extend_from_slice(b"\n")
+}
+
+/// Appends the number of the first line that differs, and the line of both.
 fn append_difference(
     alloc: Global,
     text: &mut Vec<u8>,
@@ -23,83 +28,97 @@ fn append_difference(
     seen: &[u8],
 ) -> Result<(), AllocError> {
     let mut number = 1u64;
-    let mut wanted = told.split(|byte| *byte == b'\n');
     let mut found = seen.split(|byte| *byte == b'\n');
-    for _ in 0..told.len().saturating_add(1) {
-        let want = wanted.next();
-        let find = found.next();
+    for want in told.split(|byte| *byte == b'\n') {
+        let find = found.next().unwrap_or(b"(no line)");
         if want != find {
-            let number = format!(in alloc; " line {number}\n")?;
-            return append(
-                text,
-                &[
-                    number.as_bytes(),
-                    b"  wanted: ".as_slice(),
-                    want.unwrap_or(b"(no line)"),
-                    b"\n  seen: ".as_slice(),
-                    find.unwrap_or(b"(no line)"),
-                    b"\n".as_slice(),
-                ],
-            );
+            let place = format!(in alloc; " line {number}")?;
+            text.extend_from_slice(place.as_bytes())?;
+            return append_pair(text, want, find);
         }
         number = number.saturating_add(1);
     }
-    append(text, &[b" is longer than wanted\n".as_slice()])
+    text.extend_from_slice(b" is longer than wanted\n")
 }
 
-/// What differs in a file.
+/// What differs in a file that is told of.
 fn append_file(
     alloc: Global,
     text: &mut Vec<u8>,
     file: &ToldFile,
     seen: Option<&[u8]>,
 ) -> Result<(), AllocError> {
-    append(text, &[b"file ".as_slice(), file.name.as_slice()])?;
-    match (&file.bytes, seen) {
-        (Some(told), Some(seen)) => append_difference(alloc, text, told.as_slice(), seen),
-        (Some(_), None) => append(text, &[b" is missing\n".as_slice()]),
-        (None, _) => append(text, &[b" must not be there\n".as_slice()]),
+    append_name(text, file.name.as_bytes())?;
+    match seen {
+        Some(seen) => append_difference(alloc, text, file.bytes.as_slice(), seen),
+        None => text.extend_from_slice(b" is missing\n"),
     }
 }
 
-/// A line on standard error, its line feed included; `(none)` for none.
+/// A line on standard error without its line feed; `(none)` for none.
 fn shown_line(line: &[u8]) -> &[u8] {
-    if line.is_empty() { b"(none)\n" } else { line }
+    if line.is_empty() {
+        return b"(none)";
+    }
+    line.strip_suffix(b"\n".as_slice()).unwrap_or(line)
 }
 
-/// What a row that does not hold prints: its name and the first difference.
-pub fn difference(
+/// What differs in the status.
+fn append_status(
     alloc: Global,
+    text: &mut Vec<u8>,
+    told: &Told,
+    seen: &Seen,
+) -> Result<(), AllocError> {
+    let Seen { left, status, .. } = seen;
+    let wanted = told.status;
+    let statuses = format!(in alloc;
+        "status wanted {wanted} seen {status}, {left} commands did not run, standard error "
+    )?;
+    text.extend_from_slice(statuses.as_bytes())?;
+    text.extend_from_slice(shown_line(seen.line.as_slice()))?;
+    text.extend_from_slice(b"\n")
+}
+
+/// What differs in the files.
+fn append_files(
+    alloc: Global,
+    text: &mut Vec<u8>,
+    told: &Told,
+    desk: &MemDesk,
+) -> Result<(), AllocError> {
+    for file in told.files.as_slice() {
+        if !stands(desk, file) {
+            return append_file(alloc, text, file, desk.file(file.name.as_str()));
+        }
+    }
+    for name in told.absent.as_slice() {
+        if !is_absent(desk, name.as_str()) {
+            append_name(text, name.as_bytes())?;
+            return text.extend_from_slice(b" must not be there\n");
+        }
+    }
+    Ok(())
+}
+
+/// Appends what a row that does not hold prints: its name and the first difference.
+pub fn append_row(
+    alloc: Global,
+    text: &mut Vec<u8>,
     name: &Name,
     told: &Told,
     seen: &Seen,
     desk: &MemDesk,
-) -> Result<Vec<u8>, AllocError> {
-    let mut text = Vec::from_slice(alloc, name.as_slice())?;
+) -> Result<(), AllocError> {
+    text.extend_from_slice(name.as_slice())?;
     text.extend_from_slice(b": ")?;
     if seen.left != 0 || seen.status != told.status {
-        let status = format!(in alloc; "status wanted {} seen {}, commands that did not run {}\n", told.status, seen.status, seen.left)?;
-        append(&mut text, &[status.as_bytes(), shown_line(seen.line.as_slice())])?;
-        return Ok(text);
+        return append_status(alloc, text, told, seen);
     }
     if seen.line != told.line {
-        append(
-            &mut text,
-            &[
-                b"standard error\n  wanted: ".as_slice(),
-                shown_line(told.line.as_slice()),
-                b"  seen: ".as_slice(),
-                shown_line(seen.line.as_slice()),
-            ],
-        )?;
-        return Ok(text);
+        text.extend_from_slice(b"standard error")?;
+        let wanted = shown_line(told.line.as_slice());
+        return append_pair(text, wanted, shown_line(seen.line.as_slice()));
     }
-    for file in told.files.as_slice() {
-        if !is_as_told(desk, file) {
-            let name = str::from_utf8(file.name.as_slice()).unwrap_or("");
-            append_file(alloc, &mut text, file, desk.file(name))?;
-            return Ok(text);
-        }
-    }
-    Ok(text)
+    append_files(alloc, text, told, desk)
 }
