@@ -5,6 +5,8 @@ mod comparing;
 mod draft;
 mod fault;
 mod line;
+mod planning;
+mod plans;
 mod reading;
 mod row;
 mod running;

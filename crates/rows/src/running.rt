@@ -1,4 +1,5 @@
 //! Running the commands of a row.
+use crate::plans::plan;
 use crate::row::Seen;
 use flow_io::MemDesk;
 use flow_top::{Status, refusal_line, run};
@@ -14,6 +15,30 @@ fn error_line(alloc: Global, status: &Status) -> Result<List<u8>, Memory> {
     Ok(List::from_vec(refusal_line(alloc, status)?))
 }
 
+/// What a command ends as: `plan` is one of this program, all others are those of ramflow.
+fn end_of<R: Threads + Sync>(
+    rt: &R,
+    alloc: Global,
+    words: &[String],
+    desk: &mut MemDesk,
+) -> Status {
+    match words {
+        [first, design, library, plans] if first.as_str() == "plan" => {
+            match plan(
+                alloc,
+                design.as_str(),
+                library.as_str(),
+                plans.as_str(),
+                desk,
+            ) {
+                Ok(()) => Status::Ok,
+                Err(status) => status,
+            }
+        }
+        _ => run(rt, alloc, words, desk),
+    }
+}
+
 /// Runs commands one after the other, up to the first that is refused or fails.
 pub fn run_all<R: Threads + Sync>(
     rt: &R,
@@ -25,7 +50,7 @@ pub fn run_all<R: Threads + Sync>(
     let mut status = Status::Ok;
     while let [command, tail @ ..] = rest {
         rest = tail;
-        status = run(rt, alloc, command.as_slice(), desk);
+        status = end_of(rt, alloc, command.as_slice(), desk);
         if status.exit_status() != 0 {
             break;
         }
