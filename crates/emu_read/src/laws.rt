@@ -1,0 +1,18 @@
+//! Laws about modules that get a cell or a read with other nets, each the contract of a function that
+//! does nothing.
+ghost use Rattle.emu_read.specs.Joining.{AddedNetsIsValid, AddedCombIsValid, AddedRegIsValid};
+
+/// A module with more nets is valid where the module is.
+pub fn added_nets_is_valid()
+    ensures { AddedNetsIsValid }
+{}
+
+/// A module with a logic cell that joins it is valid where the module is.
+pub fn added_comb_is_valid()
+    ensures { AddedCombIsValid }
+{}
+
+/// A module with a register that joins it is valid where the module is.
+pub fn added_reg_is_valid()
+    ensures { AddedRegIsValid }
+{}

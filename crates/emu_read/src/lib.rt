@@ -1,0 +1,5 @@
+//! Emulations of clocked reads: what a read of a memory does beyond what a RAM can do is done by logic
+//! and registers outside.
+#![tactic(auto)]
+
+pub mod laws;
