@@ -83,24 +83,24 @@ flat_more f xs x rest n h = elim (has_either (flat_map f (xs ++ x ∷ [])) rest 
   | inr b ↦ inl (has_right (flat_map f xs) rest (Net n) b)
 ]
 
-abbrev inout_wires : Module → List Bit
+abbrev pub inout_wires : Module → List Bit
 inout_wires m = wire_bits (filter is_inout m.wires)
 
-abbrev inout_pins : List Interface → Module → List Bit
+abbrev pub inout_pins : List Interface → Module → List Bit
 inout_pins modules m = flat_map (inout_pin_bits modules) m.carried
 
-wire_inout : (modules : List Interface) (m : Module) (n : ℕ) → HasNet (inout_wires m) n → HasNet (inout_bits modules m) n
+pub wire_inout : (modules : List Interface) (m : Module) (n : ℕ) → HasNet (inout_wires m) n → HasNet (inout_bits modules m) n
 wire_inout modules m n h = has_left (inout_wires m) (inout_pins modules m) (Net n) h
 
-pin_inout : (modules : List Interface) (m : Module) (n : ℕ) → HasNet (inout_pins modules m) n → HasNet (inout_bits modules m) n
+pub pin_inout : (modules : List Interface) (m : Module) (n : ℕ) → HasNet (inout_pins modules m) n → HasNet (inout_bits modules m) n
 pin_inout modules m n h = has_right (inout_wires m) (inout_pins modules m) (Net n) h
 
 -- ---- counts
 
-count_join : {X : Type 0} (p : X → Bool) (xs ys : List X) → count_by p (xs ++ ys) ≡ count_by p xs + count_by p ys
+pub count_join : {X : Type 0} (p : X → Bool) (xs ys : List X) → count_by p (xs ++ ys) ≡ count_by p xs + count_by p ys
 count_join p xs ys = sum_by-append (λ x. cond (p x) 1 0) xs ys
 
-abbrev is_silent : Node → Bool
+abbrev pub is_silent : Node → Bool
 is_silent p = nat_eq (length p.drives) 0
 
 -- a node that drives something is not counted

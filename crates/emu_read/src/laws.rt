@@ -1,6 +1,6 @@
 //! Laws about modules that get a cell or a read with other nets, each the contract of a function that
 //! does nothing.
-ghost use Rattle.emu_read.specs.Joining.{AddedNetsIsValid, AddedCombIsValid, AddedRegIsValid};
+ghost use Rattle.emu_read.specs.Joining.{AddedNetsIsValid, AddedCombIsValid, AddedRegIsValid, OtherReadIsValid};
 
 /// A module with more nets is valid where the module is.
 pub fn added_nets_is_valid()
@@ -15,4 +15,9 @@ pub fn added_comb_is_valid()
 /// A module with a register that joins it is valid where the module is.
 pub fn added_reg_is_valid()
     ensures { AddedRegIsValid }
+{}
+
+/// A module with another read in the place of one is valid where the module is.
+pub fn other_read_is_valid()
+    ensures { OtherReadIsValid }
 {}
