@@ -1,2 +1,4 @@
 pub mod Joined
 pub mod OtherRead
+pub mod Prefixes
+pub mod Emulated

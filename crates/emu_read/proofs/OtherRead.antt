@@ -35,11 +35,11 @@ use Rattle.emu_read.proofs.Joined.{count_join, is_silent, inout_wires, inout_pin
 
 -- ---- a list with another item at a place
 
-set_has : {X : Type 0} (xs : List X) (i : ℕ) (x y z : X) → slice_get xs i ≡ Some x → Has (set xs i y) z → (y ≡ z) ⊎ Has xs z
+pub set_has : {X : Type 0} (xs : List X) (i : ℕ) (x y z : X) → slice_get xs i ≡ Some x → Has (set xs i y) z → (y ≡ z) ⊎ Has xs z
 set_has xs i x y z at (k, h) = elim (get_of_set xs i k y z (get_below xs i x at) h) [ inl (e, is) ↦ inl is | inr (ne, old) ↦ inr (k, old) ]
 
 -- what the new item gives, the old one gave
-set_flat : {X Y : Type 0} (f : X → List Y) (xs : List X) (i : ℕ) (x y : X) (b : Y) → slice_get xs i ≡ Some x → (Has (f y) b → Has (f x) b) → Has (flat_map f (set xs i y)) b → Has (flat_map f xs) b
+pub set_flat : {X Y : Type 0} (f : X → List Y) (xs : List X) (i : ℕ) (x y : X) (b : Y) → slice_get xs i ≡ Some x → (Has (f y) b → Has (f x) b) → Has (flat_map f (set xs i y)) b → Has (flat_map f xs) b
 set_flat f xs i x y b at fewer h =
     let (z, there, inside) = flat_has f (set xs i y) b h in
     elim (set_has xs i x y z at there) [
@@ -70,7 +70,7 @@ set_sum f (z ∷ xs) (suc i) x y at same =
     let b = sum_by-cons f z xs in
     omega (arith, r, a, b)
 
-set_count : {X : Type 0} (f : X → List Node) (xs : List X) (i : ℕ) (x y : X) → slice_get xs i ≡ Some x → count_by is_silent (f y) ≡ count_by is_silent (f x) → count_by is_silent (flat_map f (set xs i y)) ≡ count_by is_silent (flat_map f xs)
+pub set_count : {X : Type 0} (f : X → List Node) (xs : List X) (i : ℕ) (x y : X) → slice_get xs i ≡ Some x → count_by is_silent (f y) ≡ count_by is_silent (f x) → count_by is_silent (flat_map f (set xs i y)) ≡ count_by is_silent (flat_map f xs)
 set_count f [] i x y at same = refl
 set_count f (z ∷ xs) zero x y at same =
     let e : count_by is_silent (f y) ≡ count_by is_silent (f z) = same ∙ sym (ap (λ w. count_by is_silent (f w)) (same_Some z x at)) in
@@ -176,6 +176,52 @@ module _ (modules : List Interface) (m : Module) (k j : ℕ) (x : Mem) (p q : Rd
       slots = λ i c at l s here a n h. still n (SlotOut i l a) (λ (b, g). let (t, there) = slot_place m i c at l s here in (free.undriven b n g).nodes t (slot_node s) there (a, h)) (old.slots i c at l s here a n h);
     }
 
+-- ---- clocks
+
+module _ (m : Module) (k j : ℕ) (x : Mem) (p q : RdPort) (is : IsRead m k j x p) (kept : (c : Clock) → q.clock ≡ Some c → p.clock ≡ Some c) where
+  clock_kept : (o now : Option Clock) (c : Clock) → ((d : Clock) → now ≡ Some d → o ≡ Some d) → Has (read_clock now) c → Has (read_clock o) c
+  clock_kept o None c keeps (l, h) = cc
+  clock_kept o (Some d) c keeps h = subst (λ z. Has (read_clock z) c) (sym (keeps d refl)) h
+
+  mem_clock : (c : Clock) → Has (mem_clocks (with_read x j q)) c → Has (mem_clocks x) c
+  mem_clock c h =
+      let reads = flat_map (λ (r : RdPort). read_clock r.clock) x.reads in
+      let writes = map (λ (w : WrPort). w.clock) x.writes in
+      elim (has_either (flat_map (λ (r : RdPort). read_clock r.clock) (set x.reads j q)) writes c h) [
+        | inl a ↦ has_left reads writes c (set_flat (λ (r : RdPort). read_clock r.clock) x.reads j p q c is.read (clock_kept p.clock q.clock c kept) a)
+        | inr a ↦ has_right reads writes c a
+      ]
+
+  pub old_clock : (c : Clock) → Has (clocks_of (with_port m k x j q)) c → Has (clocks_of m) c
+  old_clock c h =
+      let regs = map (λ (r : Reg). r.clock) m.regs in
+      let rams = flat_map ram_clocks m.rams in
+      let before = flat_map mem_clocks m.mems in
+      let now = flat_map mem_clocks (set m.mems k (with_read x j q)) in
+      elim (has_either regs (now ++ rams) c h) [
+        | inl a ↦ has_left regs (before ++ rams) c a
+        | inr a ↦ has_right regs (before ++ rams) c (elim (has_either now rams c a) [
+          | inl b ↦ has_left before rams c (set_flat mem_clocks m.mems k x (with_read x j q) c is.mem (mem_clock c) b)
+          | inr b ↦ has_right before rams c b
+        ])
+      ]
+
+-- ---- silent nodes
+
+reads_counted : (rs : List RdPort) → count_by is_silent (map read_node rs) ≡ sum_by (λ (r : RdPort). cond {A = ℕ} (is_silent (read_node r)) 1 0) rs
+reads_counted [] = refl
+reads_counted (r ∷ rs) =
+    let rest = reads_counted rs in
+    let a = sum_by-cons (λ (s : Node). cond {A = ℕ} (is_silent s) 1 0) (read_node r) (map read_node rs) in
+    let b = sum_by-cons (λ (s : RdPort). cond {A = ℕ} (is_silent (read_node s)) 1 0) r rs in
+    omega (arith, rest, a, b)
+
+pub port_silent : (m : Module) (k j : ℕ) (x : Mem) (p q : RdPort) → IsRead m k j x p → length q.out ≡ length p.out → count_by is_silent (flat_map mem_nodes (set m.mems k (with_read x j q))) ≡ count_by is_silent (flat_map mem_nodes m.mems)
+port_silent m k j x p q is long =
+    let f : RdPort → ℕ = λ r. cond {A = ℕ} (is_silent (read_node r)) 1 0 in
+    let one : f q ≡ f p = ap (λ l. cond {A = ℕ} (nat_eq l 0) 1 0) long in
+    set_count mem_nodes m.mems k x (with_read x j q) is.mem (reads_counted (set x.reads j q) ∙ set_sum f x.reads j p q is.read one ∙ sym (reads_counted x.reads))
+
 -- ---- validity
 
 module _ (lib : Library) (modules : List Interface) (m : Module) (k j : ℕ) (x : Mem) (p q : RdPort) (joins : ReadJoins modules m k j x p q) where
@@ -221,33 +267,6 @@ module _ (lib : Library) (modules : List Interface) (m : Module) (k j : ℕ) (x 
         ])
       ]
 
-  clock_kept : (o now : Option Clock) (c : Clock) → ((d : Clock) → now ≡ Some d → o ≡ Some d) → Has (read_clock now) c → Has (read_clock o) c
-  clock_kept o None c keeps (l, h) = cc
-  clock_kept o (Some d) c keeps h = subst (λ z. Has (read_clock z) c) (sym (keeps d refl)) h
-
-  mem_clock : (c : Clock) → Has (mem_clocks next) c → Has (mem_clocks x) c
-  mem_clock c h =
-      let reads = flat_map (λ (r : RdPort). read_clock r.clock) x.reads in
-      let writes = map (λ (w : WrPort). w.clock) x.writes in
-      elim (has_either (flat_map (λ (r : RdPort). read_clock r.clock) (set x.reads j q)) writes c h) [
-        | inl a ↦ has_left reads writes c (set_flat (λ (r : RdPort). read_clock r.clock) x.reads j p q c joins.is.read (clock_kept p.clock q.clock c joins.clock) a)
-        | inr a ↦ has_right reads writes c a
-      ]
-
-  pub old_clock : (c : Clock) → Has (clocks_of made) c → Has (clocks_of m) c
-  old_clock c h =
-      let regs = map (λ (r : Reg). r.clock) m.regs in
-      let rams = flat_map ram_clocks m.rams in
-      let before = flat_map mem_clocks m.mems in
-      let now = flat_map mem_clocks made.mems in
-      elim (has_either regs (now ++ rams) c h) [
-        | inl a ↦ has_left regs (before ++ rams) c a
-        | inr a ↦ has_right regs (before ++ rams) c (elim (has_either now rams c a) [
-          | inl b ↦ has_left before rams c (set_flat mem_clocks m.mems k x next c joins.is.mem (mem_clock c) b)
-          | inr b ↦ has_right before rams c b
-        ])
-      ]
-
   silent_same : silent_nodes made ≡ silent_nodes m
   silent_same =
       let combs = map comb_node m.combs in
@@ -258,20 +277,8 @@ module _ (lib : Library) (modules : List Interface) (m : Module) (k j : ℕ) (x 
       let b = count_join is_silent combs (regs ++ before) in
       let c = count_join is_silent regs now in
       let d = count_join is_silent regs before in
-      let e = set_count mem_nodes m.mems k x next joins.is.mem ports_same in
+      let e = port_silent m k j x p q joins.is joins.long in
       omega (arith, a, b, c, d, e)
-    where
-      one_same : (λ (r : RdPort). cond {A = ℕ} (is_silent (read_node r)) 1 0) q ≡ (λ (r : RdPort). cond {A = ℕ} (is_silent (read_node r)) 1 0) p
-      one_same = ap (λ l. cond {A = ℕ} (nat_eq l 0) 1 0) joins.long
-      counted : (rs : List RdPort) → count_by is_silent (map read_node rs) ≡ sum_by (λ (r : RdPort). cond {A = ℕ} (is_silent (read_node r)) 1 0) rs
-      counted [] = refl
-      counted (r ∷ rs) =
-          let rest = counted rs in
-          let a = sum_by-cons (λ (s : Node). cond {A = ℕ} (is_silent s) 1 0) (read_node r) (map read_node rs) in
-          let b = sum_by-cons (λ (s : RdPort). cond {A = ℕ} (is_silent (read_node s)) 1 0) r rs in
-          omega (arith, rest, a, b)
-      ports_same : count_by is_silent (mem_nodes next) ≡ count_by is_silent (mem_nodes x)
-      ports_same = counted (set x.reads j q) ∙ set_sum (λ (r : RdPort). cond {A = ℕ} (is_silent (read_node r)) 1 0) x.reads j p q joins.is.read one_same ∙ sym (counted x.reads)
 
   read_fits : (r : RdPort) → ReadFits x r → ReadFits next r
   read_fits r h = record { addr = h.addr; out = h.out; arst_value = h.arst_value; srst_value = h.srst_value; init_value = h.init_value; trans = h.trans; coll = h.coll; one_mask = h.one_mask; at_once = h.at_once }
@@ -317,7 +324,7 @@ module _ (lib : Library) (modules : List Interface) (m : Module) (k j : ℕ) (x 
       wires_inside = λ n h g. valid.inouts.wires_inside n h (inner_inside n g);
       pins_inside = λ n h g. valid.inouts.pins_inside n h (inner_inside n g);
     };
-    clocks = λ a net rising at. let (l, old) = old_clock (Root net rising) (a, at) in valid.clocks l net rising old;
+    clocks = λ a net rising at. let (l, old) = old_clock m k j x p q joins.is joins.clock (Root net rising) (a, at) in valid.clocks l net rising old;
     net_count = valid.net_count;
     silent = let e = silent_same in let l = valid.silent in omega (arith, e, l);
     counted = record { wires = valid.counted.wires; declared = valid.counted.declared; parts = valid.counted.parts; mems = let l = valid.counted.mems in let e = set_length m.mems k next in omega (arith, l, e); combs = valid.counted.combs; regs = valid.counted.regs; rams = valid.counted.rams; carried = valid.counted.carried };

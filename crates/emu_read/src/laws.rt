@@ -1,6 +1,7 @@
 //! Laws about modules that get a cell or a read with other nets, each the contract of a function that
 //! does nothing.
 ghost use Rattle.emu_read.specs.Joining.{AddedNetsIsValid, AddedCombIsValid, AddedRegIsValid, OtherReadIsValid};
+ghost use Rattle.emu_read.specs.Emulating.{EmulationIsRewriting};
 
 /// A module with more nets is valid where the module is.
 pub fn added_nets_is_valid()
@@ -20,4 +21,10 @@ pub fn added_reg_is_valid()
 /// A module with another read in the place of one is valid where the module is.
 pub fn other_read_is_valid()
     ensures { OtherReadIsValid }
+{}
+
+/// A read with what stands outside it, which does what another read does, in that one's place is a
+/// rewriting of its memory.
+pub fn emulation_is_rewriting()
+    ensures { EmulationIsRewriting }
 {}
