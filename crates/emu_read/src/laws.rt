@@ -2,6 +2,7 @@
 //! does nothing.
 ghost use Rattle.emu_read.specs.Joining.{AddedNetsIsValid, AddedCombIsValid, AddedRegIsValid, OtherReadIsValid};
 ghost use Rattle.emu_read.specs.Emulating.{EmulationIsRewriting};
+ghost use Rattle.emu_read.specs.Enable.{EnableIsEmulated};
 
 /// A module with more nets is valid where the module is.
 pub fn added_nets_is_valid()
@@ -27,4 +28,9 @@ pub fn other_read_is_valid()
 /// rewriting of its memory.
 pub fn emulation_is_rewriting()
     ensures { EmulationIsRewriting }
+{}
+
+/// The enable of a read may stand outside it, with what was shown last.
+pub fn enable_is_emulated()
+    ensures { EnableIsEmulated }
 {}

@@ -1,0 +1,91 @@
+-- A read with an enable, made of one that loads at each edge: the last data while it is not enabled are kept outside.
+use Rattle.std.specs.Prelude.{◌≡◌, ℕ, ◌+◌, ◌≤◌, true, false, List, [], ◌∷◌, map, length, Some, nat_eq}
+use Rattle.lib_core.specs.declared.library.Library.{Library}
+use Rattle.lib_core.specs.declared.library.Tri.TheVariants.{Any}
+use Rattle.net_core.specs.declared.bits.Bit.{Bit}
+use Rattle.net_core.specs.declared.bits.Bit.TheVariants.{Zero, One, Net}
+use Rattle.net_core.specs.declared.bits.Clock.{Clock}
+use Rattle.net_core.specs.declared.cells.CombKind.TheVariants.{Mux}
+use Rattle.net_core.specs.declared.cells.FfKind.TheVariants.{Dff}
+use Rattle.net_core.specs.declared.cells.Reg.{Reg}
+use Rattle.net_core.specs.declared.mems.Mem.{Mem}
+use Rattle.net_core.specs.declared.mems.RdPort.{RdPort}
+use Rattle.net_core.specs.declared.modules.Module.{Module}
+use Rattle.net_core.specs.Ports.{Interface}
+use Rattle.net_core.specs.Valid.{NoneDefined, IsValid}
+use Rattle.net_edit.specs.Edits.{as_bits, nets_from, bits_from, with_nets, with_reg, IsFresh}
+use Rattle.net_gates.specs.Adds.{IsWithin}
+use Rattle.net_gates.specs.Cells.{logic_cell}
+use Rattle.rewriting.specs.Known.{QuietWith}
+use Rattle.rewriting.specs.Reads.{mask_without, mask_with, IsRead, LoadsAlways, loses_quiet_of, EmulatesRead}
+use Rattle.emu_read.specs.Emulating.{Outside, emulated}
+use Rattle.emu_read.specs.Joining.{with_port}
+
+-- a register that has no other pins
+abbrev pub plain_reg : List ℕ → Clock → List Bit → List ℕ → Reg
+plain_reg name clock d q = record {
+  name = name;
+  kind = Dff;
+  clock = clock;
+  en = Zero;
+  en_high = false;
+  arst = Zero;
+  arst_high = false;
+  arst_value = [];
+  srst = Zero;
+  srst_high = false;
+  srst_value = [];
+  d = d;
+  q = q;
+  init = map (λ n. Any) q;
+}
+
+-- the read that loads at each edge, over other nets; of the listed writes it may take any value
+abbrev pub loads_always : List ℕ → RdPort → List ℕ → RdPort
+loads_always quiet p q = record p { en = One; trans = mask_without quiet 0 p.trans; coll = mask_with quiet 0 p.coll; out = q }
+
+-- the names of the cells outside
+pub record EnableNames : Type 0 where
+  pub loaded : List ℕ
+  pub held : List ℕ
+  pub choice : List ℕ
+
+-- From a net on: the new outputs, what was shown before the last edge, and whether the last edge loaded. The old outputs are
+-- the first of these while it is 1, else the second.
+abbrev pub enable_outside : ℕ → Clock → RdPort → EnableNames → Outside
+enable_outside first clock p names =
+    let width = length p.out in
+    record {
+      nets = width + width + 1;
+      combs = logic_cell names.choice Mux (bits_from (first + width) width) (bits_from first width) (Net (first + width + width) ∷ []) p.out ∷ [];
+      regs = plain_reg names.loaded clock (p.en ∷ []) ((first + width + width) ∷ []) ∷ plain_reg names.held clock (as_bits p.out) (nets_from (first + width) width) ∷ [];
+    }
+
+-- a clocked read that is never reset and has no defined start bit
+pub record IsPlainRead (m : Module) (k j : ℕ) (x : Mem) (p : RdPort) (clock : Clock) : Type 0 where
+  pub is : IsRead m k j x p
+  pub clocked : p.clock ≡ Some clock
+  pub arst : p.arst ≡ Zero
+  pub srst : p.srst ≡ Zero
+  pub start : NoneDefined p.init_value
+
+-- the cells of the emulation, and the modules to which they are added one after the other
+abbrev pub loaded_reg : ℕ → Clock → RdPort → EnableNames → Reg
+loaded_reg first clock p names = plain_reg names.loaded clock (p.en ∷ []) ((first + length p.out + length p.out) ∷ [])
+
+abbrev pub held_reg : ℕ → Clock → RdPort → EnableNames → Reg
+held_reg first clock p names = plain_reg names.held clock (as_bits p.out) (nets_from (first + length p.out) (length p.out))
+
+abbrev pub with_free_read : Module → ℕ → ℕ → Mem → RdPort → List ℕ → Module
+with_free_read m k j x p quiet = with_port (with_nets m (length p.out + length p.out + 1)) k x j (loads_always quiet p (nets_from m.nets (length p.out)))
+
+-- no cell has one of the names when its own is added
+pub record AreNewNames (m : Module) (k j : ℕ) (x : Mem) (p : RdPort) (clock : Clock) (quiet : List ℕ) (names : EnableNames) : Type 0 where
+  pub loaded : IsFresh (with_free_read m k j x p quiet) names.loaded
+  pub held : IsFresh (with_reg (with_free_read m k j x p quiet) (loaded_reg m.nets clock p names)) names.held
+  pub choice : IsFresh (with_reg (with_reg (with_free_read m k j x p quiet) (loaded_reg m.nets clock p names)) (held_reg m.nets clock p names)) names.choice
+
+-- The law: the read with what is kept outside is an emulation of the read.
+abbrev pub EnableIsEmulated : Type 0
+EnableIsEmulated =
+    (lib : Library) (modules : List Interface) (m : Module) (k j : ℕ) (x : Mem) (p : RdPort) (clock : Clock) (quiet : List ℕ) (names : EnableNames) → IsPlainRead m k j x p clock → IsWithin m → IsValid lib modules m → m.nets + (length p.out + length p.out + 1) ≤ 67108864 → AreNewNames m k j x p clock quiet names → QuietWith lib m x j quiet → EmulatesRead lib modules k j x p (LoadsAlways quiet) (loses_quiet_of j) m (emulated m k x j (loads_always quiet p (nets_from m.nets (length p.out))) (enable_outside m.nets clock p names))
