@@ -8,3 +8,4 @@ pub mod Enabling
 pub mod Insides
 pub mod EnableValid
 pub mod EnableOutside
+pub mod MaskSteps

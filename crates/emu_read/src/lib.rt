@@ -2,4 +2,6 @@
 //! and registers outside.
 #![tactic(auto)]
 
+pub mod enable;
 pub mod laws;
+mod listed;
