@@ -9,3 +9,5 @@ pub mod Insides
 pub mod EnableValid
 pub mod EnableOutside
 pub mod MaskSteps
+pub mod Placing
+pub mod Outside

@@ -1,5 +1,5 @@
 -- A read with an enable, made of one that loads at each edge: the last data while it is not enabled are kept outside.
-use Rattle.std.specs.Prelude.{◌≡◌, ℕ, ◌+◌, ◌≤◌, true, false, List, [], ◌∷◌, map, length, Some, nat_eq}
+use Rattle.std.specs.Prelude.{◌≡◌, ℕ, ◌+◌, ◌-◌, ◌*◌, ◌≤◌, ◌++◌, true, false, List, [], ◌∷◌, map, length, Some, nat_eq}
 use Rattle.lib_core.specs.declared.library.Library.{Library}
 use Rattle.lib_core.specs.declared.library.Tri.TheVariants.{Any}
 use Rattle.net_core.specs.declared.bits.Bit.{Bit}
@@ -7,17 +7,18 @@ use Rattle.net_core.specs.declared.bits.Bit.TheVariants.{Zero, One, Net}
 use Rattle.net_core.specs.declared.bits.Clock.{Clock}
 use Rattle.net_core.specs.declared.cells.CombKind.TheVariants.{Mux}
 use Rattle.net_core.specs.declared.cells.FfKind.TheVariants.{Dff}
+use Rattle.net_core.specs.declared.cells.Comb.{Comb}
 use Rattle.net_core.specs.declared.cells.Reg.{Reg}
 use Rattle.net_core.specs.declared.mems.Mem.{Mem}
 use Rattle.net_core.specs.declared.mems.RdPort.{RdPort}
 use Rattle.net_core.specs.declared.modules.Module.{Module}
 use Rattle.net_core.specs.Ports.{Interface}
 use Rattle.net_core.specs.Valid.{NoneDefined, IsValid}
-use Rattle.net_edit.specs.Edits.{as_bits, nets_from, bits_from, with_nets, with_reg, IsFresh}
+use Rattle.net_edit.specs.Edits.{as_bits, nets_from, bits_from, with_nets, with_reg, IsFresh, Editing, AddsReg, AddsComb}
 use Rattle.net_gates.specs.Adds.{IsWithin}
 use Rattle.net_gates.specs.Cells.{logic_cell}
 use Rattle.rewriting.specs.Known.{QuietWith}
-use Rattle.rewriting.specs.Reads.{mask_without, mask_with, IsRead, LoadsAlways, loses_quiet_of, EmulatesRead}
+use Rattle.rewriting.specs.Reads.{mask_without, mask_with, IsRead, LoadsAlways, loses_quiet_of, EmulatesRead, read_bits}
 use Rattle.emu_read.specs.Emulating.{Outside, emulated}
 use Rattle.emu_read.specs.Joining.{with_port}
 
@@ -89,3 +90,46 @@ pub record AreNewNames (m : Module) (k j : ℕ) (x : Mem) (p : RdPort) (clock : 
 abbrev pub EnableIsEmulated : Type 0
 EnableIsEmulated =
     (lib : Library) (modules : List Interface) (m : Module) (k j : ℕ) (x : Mem) (p : RdPort) (clock : Clock) (quiet : List ℕ) (names : EnableNames) → IsPlainRead m k j x p clock → IsWithin m → IsValid lib modules m → m.nets + (length p.out + length p.out + 1) ≤ 67108864 → AreNewNames m k j x p clock quiet names → QuietWith lib m x j quiet → EmulatesRead lib modules k j x p (LoadsAlways quiet) (loses_quiet_of j) m (emulated m k x j (loads_always quiet p (nets_from m.nets (length p.out))) (enable_outside m.nets clock p names))
+
+-- the read is there
+pub record HasRead (m : Module) (k j : ℕ) : Type 0 where
+  pub mem : Mem
+  pub port : RdPort
+  pub is : IsRead m k j mem port
+
+-- Two registers and a logic cell are added, one after the other.
+pub record AddsCells (old new : Editing) (first second : Reg) (third : Comb) : Type 0 where
+  pub after_first : Editing
+  pub after_second : Editing
+  pub one : AddsReg old after_first first
+  pub two : AddsReg after_first after_second second
+  pub three : AddsComb after_second new third
+
+-- The edit has the read without its enable, and what stands outside it, each cell under a new name.
+pub record PutsOutside (old new : Editing) (k j : ℕ) (x : Mem) (p : RdPort) (clock : Clock) (quiet : List ℕ) : Type 0 where
+  pub names : EnableNames
+  pub fresh : AreNewNames old.netlist k j x p clock quiet names
+  pub netlist : new.netlist ≡ emulated old.netlist k x j (loads_always quiet p (nets_from old.netlist.nets (length p.out))) (enable_outside old.netlist.nets clock p names)
+  pub reads : new.reads ≡ old.reads ++ bits_from old.netlist.nets (length p.out + length p.out + 1)
+
+-- A clocked read of a valid module may be emulated: there is room for what an emulation may add.
+pub record CanEmulate (m : Module) (k j : ℕ) : Type 0 where
+  pub lib : Library
+  pub modules : List Interface
+  pub valid : IsValid lib modules m
+  pub within : IsWithin m
+  pub mem : Mem
+  pub port : RdPort
+  pub clock : Clock
+  pub is : IsRead m k j mem port
+  pub clocked : port.clock ≡ Some clock
+  pub room : m.nets + 4 * read_bits mem port ≤ 67108864
+
+-- The new nets of an edit are read as themselves.
+abbrev pub HasNewNets : Editing → Editing → Type 0
+HasNewNets old new = (old.netlist.nets ≤ new.netlist.nets) × (new.reads ≡ old.reads ++ bits_from old.netlist.nets (new.netlist.nets - old.netlist.nets))
+
+-- A read that is never reset and has no defined start bit loads at each edge now.
+abbrev pub EnableIsOutside : List ℕ → ℕ → ℕ → Module → Module → Type 0
+EnableIsOutside quiet k j old new =
+    (lib : Library) (modules : List Interface) (x : Mem) (p : RdPort) (clock : Clock) → IsPlainRead old k j x p clock → IsValid lib modules old → QuietWith lib old x j quiet → EmulatesRead lib modules k j x p (LoadsAlways quiet) (loses_quiet_of j) old new
