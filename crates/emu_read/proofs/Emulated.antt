@@ -1,8 +1,8 @@
 -- A read with what stands outside it is a rewriting of its memory.
-use Rattle.std.proofs.Common.{◌≡◌, ℕ, zero, suc, ◌+◌, ◌*◌, ◌^◌, ◌<◌, ◌≤◌, ◌⊎◌, inl, inr, Bool, true, false, cond, List, [], ◌∷◌, ◌++◌, map, length, set, take, Option, Some, None, refl, sym, ap, ◌∙◌, subst, arith, nat_eq, nat_lt, eqb}
+use Rattle.std.proofs.Common.{◌≡◌, ℕ, zero, suc, ◌+◌, ◌*◌, ◌<◌, inl, inr, true, false, cond, List, [], ◌∷◌, ◌++◌, map, length, set, take, Some, refl, sym, ap, ◌∙◌, subst, arith, nat_eq, nat_lt}
 use Rattle.std.specs.Prelude.{slice_get, count_by}
 use Rattle.std.specs.Option.{option_map}
-use Rattle.std.specs.List.{flat_map, sum_by}
+use Rattle.std.specs.List.{flat_map}
 use Rattle.std.proofs.lemmas.Bool.{ne_eqb, cases_eq}
 use Rattle.std.proofs.lemmas.Bool.Decides.{nat_tests}
 use Rattle.std.proofs.lemmas.Option.{same_Some}
@@ -19,25 +19,24 @@ use Rattle.net_core.specs.declared.mems.Mem.{Mem}
 use Rattle.net_core.specs.declared.mems.RdPort.{RdPort}
 use Rattle.net_core.specs.declared.mems.WrPort.{WrPort}
 use Rattle.net_core.specs.declared.modules.Module.{Module}
-use Rattle.net_core.specs.Memory.{Words, frame_of, ReadAllows, MemAllows}
-use Rattle.net_core.specs.Nodes.{Node, comb_node, reg_node, read_node, slot_node, mem_nodes, nodes_of, HasNet, Drives, Rises, Ordered}
-use Rattle.net_core.specs.Ports.{Interface, inputs_of, read_clock, mem_clocks, ram_clocks, clocks_of, IsClockRoot}
+use Rattle.net_core.specs.Memory.{frame_of, ReadAllows, MemAllows}
+use Rattle.net_core.specs.Nodes.{Node, comb_node, reg_node, read_node, slot_node, mem_nodes, nodes_of, Rises, Ordered}
+use Rattle.net_core.specs.Ports.{Interface, inputs_of, read_clock, mem_clocks, ram_clocks, clocks_of}
 use Rattle.net_core.specs.Runs.{Run}
 use Rattle.net_core.specs.Simulation.{Simulates}
-use Rattle.net_core.specs.Valid.{Each, silent_nodes, IsValid}
-use Rattle.net_core.specs.Values.{Wave, Happening, At, value_of}
+use Rattle.net_core.specs.Valid.{silent_nodes}
+use Rattle.net_core.specs.Values.{Wave, Happening, value_of}
 use Rattle.net_core.proofs.Basics.{get_left, get_joined, get_below}
 use Rattle.net_core.proofs.Ordering.{comb_place, reg_place, read_place, slot_place}
 use Rattle.net_core.proofs.Searching.{get_set_same, get_set_other}
 use Rattle.net_edit.specs.Laws.{IsKnownClock}
-use Rattle.net_edit.proofs.Lists.{Has, has_left, has_right, has_either, map_has, has_map, has_flat}
-use Rattle.net_gates.specs.Adds.{IsWithin}
-use Rattle.rewriting.specs.Keeping.{Lost, Reach, PortPlace, ReadAt, WriteAt, read_reach, write_reach, reach_at, KeepsPlaces, KeepsPorts}
-use Rattle.rewriting.specs.Known.{AreEnough, IsGuarded, QuietAt, QuietWith}
-use Rattle.rewriting.specs.Reads.{with_read, IsRead, read_room}
+use Rattle.net_edit.proofs.Lists.{Has, has_left, has_right, has_either, map_has, has_flat}
+use Rattle.rewriting.specs.Keeping.{Lost, PortPlace, ReadAt, WriteAt, read_reach, reach_at, KeepsPorts}
+use Rattle.rewriting.specs.Known.{AreEnough, IsGuarded, QuietAt}
+use Rattle.rewriting.specs.Reads.{with_read, read_room}
 use Rattle.rewriting.specs.Rewrites.{GrowsBy, StandsAround, Rewrites}
 use Rattle.rewriting.proofs.Staying.{inside_stays, quiet_stays}
-use Rattle.emu_read.specs.Emulating.{Outside, emulated, IsQuietNow, IsQuietBefore, ReadsAsBefore, spread, Rising, IsFew, Emulation, EmulationIsRewriting}
+use Rattle.emu_read.specs.Emulating.{Outside, emulated, IsQuietBefore, spread, Rising, Emulation, EmulationIsRewriting}
 use Rattle.emu_read.proofs.Joined.{count_join, is_silent}
 use Rattle.emu_read.proofs.OtherRead.{set_has, port_cases, old_clock, port_silent}
 use Rattle.emu_read.proofs.Prefixes.{at_taken, taken_at, run_prefix}

@@ -1,12 +1,12 @@
 -- The enable of a read stands outside: this is an emulation of the read.
-use Rattle.std.proofs.Common.{◌≡◌, ℕ, zero, suc, ◌+◌, ◌*◌, ◌^◌, ◌<◌, ◌≤◌, Bool, true, false, List, [], ◌∷◌, length, Some, refl, sym, ap, ◌∙◌, subst, arith, nat_eq}
+use Rattle.std.proofs.Common.{◌≡◌, ℕ, zero, suc, ◌+◌, ◌*◌, ◌^◌, ◌<◌, ◌≤◌, true, false, List, [], ◌∷◌, length, Some, refl, ap, ◌∙◌, subst, arith, nat_eq}
 use Rattle.std.specs.Prelude.{slice_get}
 use Rattle.std.specs.List.{sum_by}
 use Rattle.std.proofs.lemmas.Bool.{eq-eqb}
 use Rattle.std.proofs.lemmas.List.Sums.{sum_by-cons}
 use Rattle.std.proofs.lemmas.Nat.{pow_pos}
 use Rattle.std.proofs.lemmas.Option.{same_Some}
-use Rattle.std.proofs.Math.Nat.{mul-le-mul_left, mul-le-mul_right}
+use Rattle.std.proofs.Math.Nat.{mul-le-mul_right}
 use Rattle.lib_core.specs.declared.library.Library.{Library}
 use Rattle.net_core.specs.declared.bits.Clock.{Clock}
 use Rattle.net_core.specs.declared.cells.Comb.{Comb}
@@ -22,10 +22,9 @@ use Rattle.net_gates.specs.Cells.{logic_cell}
 use Rattle.net_core.specs.declared.bits.Bit.TheVariants.{Net}
 use Rattle.net_core.specs.declared.cells.CombKind.TheVariants.{Mux}
 use Rattle.net_gates.proofs.NewCell.{range_length}
-use Rattle.fit_rules.specs.Bits.{room_bits}
 use Rattle.rewriting.specs.Known.{QuietWith}
 use Rattle.rewriting.specs.Reads.{read_bits, loses_quiet_of}
-use Rattle.emu_read.specs.Emulating.{Outside, emulated, IsFew, Emulation}
+use Rattle.emu_read.specs.Emulating.{Outside, IsFew, Emulation}
 use Rattle.emu_read.specs.Enable.{loads_always, EnableNames, enable_outside, loaded_reg, held_reg, IsPlainRead, AreNewNames, EnableIsEmulated}
 use Rattle.emu_read.proofs.Emulated.{emulation_is_rewriting}
 use Rattle.emu_read.proofs.Enabling.{reads_as_before}
@@ -74,13 +73,16 @@ module _ (lib : Library) (modules : List Interface) (m : Module) (k j : ℕ) (x 
     where
       logic : sum_by (λ (c : Comb). length c.y) outside.combs ≤ 4 * read_bits x p
       logic = let e : sum_by (λ (c : Comb). length c.y) outside.combs ≡ length p.out = one_sum (λ (c : Comb). length c.y) choice in omega (arith, e)
+
       bits : sum_by (λ (r : Reg). length r.q) outside.regs ≤ 2 * length p.out + 1
       bits = let e = two_sum (λ (r : Reg). length r.q) flag held in let f = range_length (m.nets + length p.out) (length p.out) in
           let whole : sum_by (λ (r : Reg). length r.q) outside.regs ≡ 1 + length (nets_from (m.nets + length p.out) (length p.out)) = e in
           omega (arith, whole, f)
+
       one_comb : (i : ℕ) (c : Comb) → slice_get outside.combs i ≡ Some c → 0 < length c.y
       one_comb zero c at = subst (λ (z : Comb). 0 < length z.y) (same_Some choice c at) some
       one_comb (suc i) c at = cc
+
       one_reg : (i : ℕ) (r : Reg) → slice_get outside.regs i ≡ Some r → 0 < length r.q
       one_reg zero r at = subst (λ (z : Reg). 0 < length z.q) (same_Some flag r at) (omega arith)
       one_reg (suc zero) r at = subst (λ (z : Reg). 0 < length z.q) (same_Some held r at) (let e = range_length (m.nets + length p.out) (length p.out) in let s = some in omega (arith, e, s))
@@ -108,6 +110,7 @@ module _ (lib : Library) (modules : List Interface) (m : Module) (k j : ℕ) (x 
       known zero r at = plain.clocked ∙ ap (λ (z : Reg). Some z.clock) (same_Some flag r at)
       known (suc zero) r at = plain.clocked ∙ ap (λ (z : Reg). Some z.clock) (same_Some held r at)
       known (suc (suc i)) r at = cc
+
       own_lost : nat_eq j j ≡ false → ⊥
       own_lost h = let e : nat_eq j j ≡ true = eq-eqb j j refl in cc
 

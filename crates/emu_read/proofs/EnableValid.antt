@@ -1,7 +1,6 @@
 -- A module in which the enable of a read stands outside is valid, and has an order.
-use Rattle.std.proofs.Common.{◌≡◌, ℕ, zero, suc, ◌+◌, ◌*◌, ◌^◌, ◌<◌, ◌≤◌, inl, inr, Bool, true, false, cond, not, ◌&&◌, ◌||◌, List, [], ◌∷◌, ◌++◌, map, length, set, Option, Some, None, refl, sym, ap, ◌∙◌, subst, arith, nat_lt, append_assoc}
+use Rattle.std.proofs.Common.{◌≡◌, ℕ, zero, suc, ◌+◌, ◌*◌, ◌<◌, ◌≤◌, inl, inr, Bool, true, false, cond, not, ◌&&◌, ◌||◌, List, [], ◌∷◌, ◌++◌, length, Option, Some, None, refl, sym, ap, ◌∙◌, subst, arith, nat_lt, append_assoc}
 use Rattle.std.specs.Prelude.{slice_get}
-use Rattle.std.specs.List.{range_with_len}
 use Rattle.std.proofs.lemmas.Bool.Decides.{nat_tests}
 use Rattle.std.proofs.lemmas.List.{length-map}
 use Rattle.std.proofs.lemmas.Option.{same_Some, none-some}
@@ -15,15 +14,15 @@ use Rattle.net_core.specs.declared.cells.Reg.{Reg}
 use Rattle.net_core.specs.declared.mems.Mem.{Mem}
 use Rattle.net_core.specs.declared.mems.RdPort.{RdPort}
 use Rattle.net_core.specs.declared.modules.Module.{Module}
-use Rattle.net_core.specs.Nodes.{comb_node, reg_node, read_node, read_needs, nodes_of, HasNet, Drives, Rises, Ordered}
-use Rattle.net_core.specs.Pins.{comb_bits, reg_bits}
+use Rattle.net_core.specs.Nodes.{comb_node, reg_node, read_node, read_needs, nodes_of, HasNet, Rises, Ordered}
+use Rattle.net_core.specs.Pins.{comb_bits}
 use Rattle.net_core.specs.Ports.{Interface}
 use Rattle.net_core.specs.Valid.{ReadFits, IsValid}
 use Rattle.net_core.specs.Values.{bit_at}
 use Rattle.net_core.proofs.Basics.{get_below, get_joined}
 use Rattle.net_core.proofs.Ordering.{read_place}
 use Rattle.net_core.proofs.Searching.{get_set_same}
-use Rattle.net_edit.specs.Edits.{as_bits, nets_from, bits_from, with_nets, with_comb, with_reg}
+use Rattle.net_edit.specs.Edits.{as_bits, nets_from, bits_from, with_nets, with_reg}
 use Rattle.net_edit.specs.Laws.{IsUndriven}
 use Rattle.net_edit.proofs.Lists.{Has, has_none, has_first}
 use Rattle.net_edit.proofs.Ranges.{range_at, range_below}
@@ -31,12 +30,12 @@ use Rattle.net_gates.specs.Adds.{IsWithin}
 use Rattle.net_gates.specs.Cells.{logic_cell}
 use Rattle.net_core.specs.declared.cells.CombKind.TheVariants.{Mux}
 use Rattle.net_core.specs.Drivers.{ReadOut}
-use Rattle.net_gates.proofs.NewCell.{range_length, new_net}
+use Rattle.net_gates.proofs.NewCell.{range_length}
 use Rattle.rewriting.specs.Reads.{mask_without, mask_with, is_listed, with_read, IsRead}
 use Rattle.emu_read.specs.Emulating.{Outside, emulated, spread, Rising}
 use Rattle.emu_read.specs.Enable.{plain_reg, loads_always, EnableNames, enable_outside, IsPlainRead, AreNewNames}
-use Rattle.emu_read.specs.Joining.{IsInside, AreFreeNets, AreInside, CombJoins, RegJoins, ReadJoins, with_port}
-use Rattle.emu_read.proofs.Insides.{driven_inside, new_inside, port_inside, out_inside, comb_counted, reg_counted, port_clock, clock_known, reg_undriven}
+use Rattle.emu_read.specs.Joining.{IsInside, CombJoins, RegJoins, ReadJoins, with_port}
+use Rattle.emu_read.proofs.Insides.{new_inside, port_inside, out_inside, comb_counted, reg_counted, port_clock, clock_known, reg_undriven}
 use Rattle.emu_read.proofs.Joined.{added_nets_is_valid, added_comb_is_valid, added_reg_is_valid}
 use Rattle.emu_read.proofs.OtherRead.{left_undriven, still_undriven, other_read_is_valid}
 
@@ -141,10 +140,12 @@ module _ (m : Module) (k j : ℕ) (x : Mem) (p : RdPort) (clock : Clock) (quiet 
             let high = rank_old n (out_old n d) in
             omega (arith, low, high))
         one_comb (suc i) c at = cc
+
         one_reg : (i : ℕ) (r : Reg) → slice_get outside.regs i ≡ Some r → Rises rank (reg_node r)
         one_reg zero r at = subst (λ z. Rises rank (reg_node z)) (same_Some _ r at) (λ n z d h. absurd (no_zero z h))
         one_reg (suc zero) r at = subst (λ z. Rises rank (reg_node z)) (same_Some _ r at) (λ n z d h. absurd (no_zero z h))
         one_reg (suc (suc i)) r at = cc
+
         needs_arst : (c : Option Clock) → c ≡ Some clock → (z : ℕ) → HasNet (read_needs c q) z → HasNet (Zero ∷ []) z
         needs_arst None e z h = cc
         needs_arst (Some c) e z h = subst (λ b. HasNet (b ∷ []) z) plain.arst h

@@ -1,5 +1,5 @@
 -- A read with an enable is one without, and what is kept outside.
-use Rattle.std.proofs.Common.{◌≡◌, ℕ, zero, suc, ◌+◌, ◌<◌, ◌≤◌, Bool, true, false, cond, not, ◌&&◌, ◌||◌, List, [], ◌∷◌, ◌++◌, map, length, Option, Some, None, refl, sym, ap, ◌∙◌, subst, arith}
+use Rattle.std.proofs.Common.{◌≡◌, ℕ, zero, suc, ◌+◌, ◌<◌, Bool, true, false, cond, not, ◌&&◌, ◌||◌, List, [], ◌∷◌, length, Some, refl, sym, ap, ◌∙◌, subst, arith}
 use Rattle.std.specs.Prelude.{slice_get}
 use Rattle.std.specs.List.{range_with_len}
 use Rattle.std.proofs.lemmas.Option.{same_Some}
@@ -8,10 +8,8 @@ use Rattle.lib_core.specs.declared.library.Tri.{Tri}
 use Rattle.lib_core.specs.declared.library.Tri.TheVariants.{Any}
 use Rattle.lib_core.specs.Rams.{tri_at}
 use Rattle.net_core.specs.declared.bits.Bit.{Bit}
-use Rattle.net_core.specs.declared.bits.Bit.TheVariants.{Zero, One, Net}
+use Rattle.net_core.specs.declared.bits.Bit.TheVariants.{Zero, Net}
 use Rattle.net_core.specs.declared.bits.Clock.{Clock}
-use Rattle.net_core.specs.declared.cells.Comb.{Comb}
-use Rattle.net_core.specs.declared.cells.Reg.{Reg}
 use Rattle.net_core.specs.declared.mems.Mem.{Mem}
 use Rattle.net_core.specs.declared.mems.RdPort.{RdPort}
 use Rattle.net_core.specs.declared.mems.WrPort.{WrPort}
@@ -20,13 +18,13 @@ use Rattle.net_core.specs.Cells.{RegAllows}
 use Rattle.net_core.specs.Memory.{Words, Frame, frame_of, base_of, hits, loaded, read_bit, read_next, ClockedAllows, ReadAllows}
 use Rattle.net_core.specs.Ports.{inputs_of}
 use Rattle.net_core.specs.Runs.{Run}
-use Rattle.net_core.specs.Valid.{Each, NoneDefined}
+use Rattle.net_core.specs.Valid.{NoneDefined}
 use Rattle.net_core.specs.Values.{Valuation, Wave, Happening, At, value_of, values_of, bit_at, tri_of, Agrees, has_edge}
 use Rattle.net_core.proofs.Basics.{get_right, get_below}
-use Rattle.net_edit.specs.Edits.{as_bits, nets_from, bits_from}
+use Rattle.net_edit.specs.Edits.{as_bits, nets_from}
 use Rattle.net_edit.proofs.Lists.{last_at}
 use Rattle.net_gates.proofs.NewCell.{agrees_told}
-use Rattle.rewriting.specs.Reads.{is_listed, mask_without, mask_with}
+use Rattle.rewriting.specs.Reads.{is_listed}
 use Rattle.emu_read.specs.Emulating.{Outside, emulated, IsQuietNow, IsQuietBefore, ReadsAsBefore}
 use Rattle.emu_read.specs.Enable.{plain_reg, loads_always, EnableNames, enable_outside, IsPlainRead}
 use Rattle.emu_read.proofs.Masks.{listed_at, without_same, with_same, loaded_same, misses}
@@ -123,7 +121,7 @@ module _ (lib : Library) (m : Module) (k j : ℕ) (x : Mem) (p : RdPort) (clock 
     free_step t e next at then a l =
         let there = range_get m.nets width a l in
         let shown : (s : ℕ) (d : Happening) → At events s d → v s (m.nets + a) ≡ free.kept s a = λ s d here.
-            agrees_told (free.kept s a) (v s (m.nets + a)) (subst (λ b. Agrees (cond (value_of (v s) b) (tri_at q.arst_value a) (tri_of (free.kept s a))) (v s (m.nets + a))) plain.arst (free.shows s d here a (m.nets + a) there)) in
+        agrees_told (free.kept s a) (v s (m.nets + a)) (subst (λ b. Agrees (cond (value_of (v s) b) (tri_at q.arst_value a) (tri_of (free.kept s a))) (v s (m.nets + a))) plain.arst (free.shows s d here a (m.nets + a) there)) in
         let step = subst (λ z. Agrees z (free.kept (suc t) a)) (next_plain inputs (frame_of x) x.writes clock q e (v t) (words t) (free.kept t) a (m.nets + a) plain.arst plain.srst) (free.steps t e at a (m.nets + a) there) in
         let here = shown t e at in
         let after = shown (suc t) next then in
@@ -134,10 +132,10 @@ module _ (lib : Library) (m : Module) (k j : ℕ) (x : Mem) (p : RdPort) (clock 
     takes_same : (t : ℕ) (e : Happening) → IsQuietNow x p quiet (v t) → value_of (v t) p.en ≡ true → (a : ℕ) → read_bit (frame_of x) (base_of (v t) p.addr) a (λ word bit. loaded q.trans q.coll x.writes (hits inputs (frame_of x) e (v t) word bit x.writes) (words t word bit)) ≡ read_bit (frame_of x) (base_of (v t) p.addr) a (λ word bit. loaded p.trans p.coll x.writes (hits inputs (frame_of x) e (v t) word bit x.writes) (words t word bit))
     takes_same t e now on a =
         let same : (word bit : ℕ) → loaded q.trans q.coll x.writes (hits inputs (frame_of x) e (v t) word bit x.writes) (words t word bit) ≡ loaded p.trans p.coll x.writes (hits inputs (frame_of x) e (v t) word bit x.writes) (words t word bit) = λ word bit.
-            loaded_same quiet q.trans q.coll p.trans p.coll (without_same quiet p.trans) (with_same quiet p.coll) x.writes (hits inputs (frame_of x) e (v t) word bit x.writes) (words t word bit) (misses quiet inputs (frame_of x) e (v t) word bit 0 x.writes (λ l w there listed b.
-            let zero_more : 0 + l ≡ l = omega arith in
-            let (i, is) = listed_at quiet l (ap (is_listed quiet) (sym zero_more) ∙ listed) in
-            now i l w is there on b)) in
+        loaded_same quiet q.trans q.coll p.trans p.coll (without_same quiet p.trans) (with_same quiet p.coll) x.writes (hits inputs (frame_of x) e (v t) word bit x.writes) (words t word bit) (misses quiet inputs (frame_of x) e (v t) word bit 0 x.writes (λ l w there listed b.
+        let zero_more : 0 + l ≡ l = omega arith in
+        let (i, is) = listed_at quiet l (ap (is_listed quiet) (sym zero_more) ∙ listed) in
+        now i l w is there on b)) in
         (λ i. read_bit (frame_of x) (base_of (v t) p.addr) a (λ word bit. same word bit i))
 
     old_step : (t : ℕ) (e next : Happening) → At events t e → At events (suc t) next → (shown : ℕ → Bool) (a n : ℕ) → slice_get p.out a ≡ Some n → shown a ≡ v t n → Agrees (read_next inputs (frame_of x) x.writes clock p e (v t) (words t) shown a n) (v (suc t) n)

@@ -1,5 +1,5 @@
 -- Nets of a valid module that stand among no inout bits.
-use Rattle.std.proofs.Common.{◌≡◌, ℕ, zero, suc, ◌+◌, ◌^◌, ◌<◌, ◌≤◌, inl, inr, Bool, true, false, cond, List, [], ◌∷◌, ◌++◌, map, length, Option, Some, None, refl, sym, ap, ◌∙◌, subst, arith, length-append}
+use Rattle.std.proofs.Common.{◌≡◌, ℕ, suc, ◌+◌, ◌^◌, ◌<◌, ◌≤◌, inl, inr, Bool, true, false, cond, List, [], ◌∷◌, ◌++◌, map, length, Some, refl, sym, ap, subst, arith, length-append}
 use Rattle.std.specs.Prelude.{slice_get, filter}
 use Rattle.std.specs.List.{flat_map}
 use Rattle.std.proofs.lemmas.List.{length-map}
@@ -29,7 +29,7 @@ use Rattle.net_edit.proofs.Adding.{reg_nodes}
 use Rattle.net_edit.proofs.Lists.{Has, has_left, has_right, has_either, has_first, flat_has, has_flat, has_map}
 use Rattle.rewriting.specs.Reads.{IsRead}
 use Rattle.emu_read.specs.Joining.{IsInside}
-use Rattle.emu_read.proofs.Joined.{inout_wires, inout_pins, wire_inout, pin_inout}
+use Rattle.emu_read.proofs.Joined.{inout_wires, inout_pins}
 
 filter_has : {X : Type 0} (p : X → Bool) (xs : List X) (y : X) → Has (filter p xs) y → Has xs y
 filter_has p [] y h = h

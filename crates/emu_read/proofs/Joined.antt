@@ -1,5 +1,5 @@
 -- A module with more nets, or with one more cell, is valid where the module is.
-use Rattle.std.proofs.Common.{◌≡◌, ℕ, zero, suc, ◌+◌, ◌<◌, ◌≤◌, ◌⊎◌, inl, inr, Bool, true, false, cond, List, [], ◌∷◌, ◌++◌, map, length, Option, Some, None, refl, sym, ap, ◌∙◌, subst, arith, nat_eq, append_assoc, append-nil}
+use Rattle.std.proofs.Common.{◌≡◌, ℕ, zero, suc, ◌+◌, ◌<◌, ◌⊎◌, inl, inr, Bool, true, false, cond, List, [], ◌∷◌, ◌++◌, map, length, Option, Some, None, refl, sym, ap, ◌∙◌, subst, arith, nat_eq, append_assoc, append-nil}
 use Rattle.std.specs.Prelude.{slice_get, count_by, filter}
 use Rattle.std.specs.List.{flat_map}
 use Rattle.std.proofs.lemmas.Option.{same_Some}
@@ -22,14 +22,14 @@ use Rattle.net_core.specs.declared.rams.RamCell.{RamCell}
 use Rattle.net_core.specs.Nodes.{Node, comb_node, reg_node, mem_nodes, nodes_of, HasNet, Drives}
 use Rattle.net_core.specs.Pins.{comb_bits, reg_bits, mem_bits, ram_bits, carried_bits, inner_bits, all_bits}
 use Rattle.net_core.specs.Ports.{Interface, is_inout, wire_bits, bits_of_pins, inout_pin_bits, inout_bits, inputs_of, mem_clocks, ram_clocks, clocks_of}
-use Rattle.net_core.specs.Valid.{AreApart, Each, CombFits, RegFits, EdgeFits, HasInverter, RamFits, InoutsApart, cell_names, silent_nodes, IsValid}
+use Rattle.net_core.specs.Valid.{AreApart, CombFits, RegFits, EdgeFits, HasInverter, RamFits, InoutsApart, cell_names, silent_nodes, IsValid}
 use Rattle.net_core.proofs.Basics.{get_left}
 use Rattle.net_core.proofs.Searching.{get_pushed}
 use Rattle.net_edit.specs.Edits.{with_nets, with_comb, with_reg}
-use Rattle.net_edit.specs.Laws.{IsUndriven, IsKnownClock}
+use Rattle.net_edit.specs.Laws.{IsKnownClock}
 use Rattle.net_edit.proofs.Adding.{comb_nodes, reg_nodes, added_comb_has_one_driver, added_reg_has_one_driver}
 use Rattle.net_edit.proofs.Lists.{Has, has_left, has_right, has_either, flat_has, has_flat, pushed_has, map_has, has_map}
-use Rattle.emu_read.specs.Joining.{IsInside, AreFreeNets, AreInside, IsNewName, CombJoins, RegJoins, AddedNetsIsValid, AddedCombIsValid, AddedRegIsValid}
+use Rattle.emu_read.specs.Joining.{AreFreeNets, AreInside, CombJoins, RegJoins, AddedNetsIsValid, AddedCombIsValid, AddedRegIsValid}
 
 -- ---- a name more
 

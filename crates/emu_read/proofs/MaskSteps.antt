@@ -1,5 +1,5 @@
 -- Steps of the loops that make masks.
-use Rattle.std.proofs.Common.{◌≡◌, ℕ, suc, ◌+◌, Bool, not, ◌&&◌, ◌||◌, List, [], ◌∷◌, ◌++◌, refl, sym, ap, ◌∙◌, subst, append_assoc, append-nil, add-one}
+use Rattle.std.proofs.Common.{◌≡◌, ℕ, ◌+◌, Bool, not, ◌&&◌, ◌||◌, List, [], ◌∷◌, ◌++◌, sym, ap, ◌∙◌, append_assoc, append-nil, add-one}
 use Rattle.rewriting.specs.Reads.{is_listed, mask_without, mask_with}
 
 pub none_left : (mask whole : List Bool) (m : List Bool) → m ≡ [] → mask ++ m ≡ whole → mask ≡ whole

@@ -1,7 +1,6 @@
 -- Listed writes that hit nothing: masks that differ at them alone tell the same.
-use Rattle.std.proofs.Common.{◌≡◌, ℕ, zero, suc, ◌+◌, ◌*◌, ◌-◌, ◌^◌, Bool, true, false, cond, not, ◌&&◌, ◌||◌, List, [], ◌∷◌, Option, Some, None, refl, sym, ap, ◌∙◌, subst, arith, nat_eq, nat_le, nat_lt, eqb}
+use Rattle.std.proofs.Common.{◌≡◌, ℕ, zero, suc, ◌+◌, ◌*◌, ◌-◌, ◌^◌, Bool, true, false, cond, not, ◌&&◌, ◌||◌, List, [], ◌∷◌, Option, Some, None, refl, sym, ap, ◌∙◌, arith, nat_eq, nat_le, nat_lt}
 use Rattle.std.specs.Prelude.{slice_get}
-use Rattle.std.specs.List.{list_any}
 use Rattle.std.proofs.lemmas.Bool.{eqb-true}
 use Rattle.lib_core.specs.declared.library.Tri.{Tri}
 use Rattle.lib_core.specs.declared.library.Tri.TheVariants.{Any}
@@ -91,6 +90,6 @@ no_hit inputs f e u word k w off =
 pub misses : (writes : List ℕ) (inputs : List ℕ) (f : Frame) (e : Happening) (u : Valuation) (word k at : ℕ) (ws : List WrPort) → ((l : ℕ) (w : WrPort) → slice_get ws l ≡ Some w → is_listed writes (at + l) ≡ true → (b : ℕ) → bit_at (values_of u w.en) b ≡ false) → Misses writes at (hits inputs f e u word k ws)
 misses writes inputs f e u word k at [] off = tt
 misses writes inputs f e u word k at (w ∷ ws) off = (
-    λ listed. no_hit inputs f e u word k w (off 0 w refl (let e : at + 0 ≡ at = omega arith in ap (is_listed writes) e ∙ listed)),
-    misses writes inputs f e u word k (suc at) ws (λ l z there listed. off (suc l) z there (let e : at + suc l ≡ suc at + l = omega arith in ap (is_listed writes) e ∙ listed)),
-  )
+  λ listed. no_hit inputs f e u word k w (off 0 w refl (let e : at + 0 ≡ at = omega arith in ap (is_listed writes) e ∙ listed)),
+  misses writes inputs f e u word k (suc at) ws (λ l z there listed. off (suc l) z there (let e : at + suc l ≡ suc at + l = omega arith in ap (is_listed writes) e ∙ listed)),
+)

@@ -1,37 +1,33 @@
 -- A module with another read in the place of one is valid where the module is.
-use Rattle.std.proofs.Common.{◌≡◌, ℕ, zero, suc, ◌+◌, ◌*◌, ◌^◌, ◌<◌, ◌≤◌, ◌⊎◌, inl, inr, Bool, true, false, cond, List, [], ◌∷◌, ◌++◌, map, length, set, Option, Some, None, refl, sym, ap, ◌∙◌, subst, arith, nat_eq, append-nil}
+use Rattle.std.proofs.Common.{◌≡◌, ℕ, zero, suc, ◌^◌, ◌<◌, ◌⊎◌, inl, inr, cond, List, [], ◌∷◌, ◌++◌, map, length, set, Option, Some, None, refl, sym, ap, ◌∙◌, subst, arith, nat_eq, append-nil}
 use Rattle.std.specs.Prelude.{slice_get, count_by}
 use Rattle.std.specs.List.{flat_map, sum_by}
 use Rattle.std.proofs.lemmas.Option.{same_Some}
 use Rattle.std.proofs.lemmas.List.Sums.{sum_by-cons}
 use Rattle.lib_core.specs.declared.library.Library.{Library}
-use Rattle.net_core.specs.declared.bits.Bit.{Bit}
 use Rattle.net_core.specs.declared.bits.Bit.TheVariants.{Net}
 use Rattle.net_core.specs.declared.bits.Clock.{Clock}
 use Rattle.net_core.specs.declared.bits.Clock.TheVariants.{Root}
-use Rattle.net_core.specs.declared.cells.Comb.{Comb}
 use Rattle.net_core.specs.declared.cells.Reg.{Reg}
 use Rattle.net_core.specs.declared.mems.Mem.{Mem}
 use Rattle.net_core.specs.declared.mems.RdPort.{RdPort}
 use Rattle.net_core.specs.declared.mems.WrPort.{WrPort}
 use Rattle.net_core.specs.declared.modules.MemPart.{MemPart}
 use Rattle.net_core.specs.declared.modules.Module.{Module}
-use Rattle.net_core.specs.declared.rams.RamCell.{RamCell}
-use Rattle.net_core.specs.declared.rams.SlotUse.{SlotUse}
 use Rattle.net_core.specs.Drivers.{Driver, Input, CombOut, RegOut, ReadOut, SlotOut, HasOneDriver}
 use Rattle.net_core.specs.Nodes.{Node, comb_node, reg_node, read_node, slot_node, mem_nodes, nodes_of, HasNet, Drives}
 use Rattle.net_core.specs.Pins.{comb_bits, reg_bits, read_bits, write_bits, mem_bits, ram_bits, carried_bits, inner_bits, all_bits}
-use Rattle.net_core.specs.Ports.{Interface, wire_bits, bits_of_pins, inputs_of, read_clock, mem_clocks, ram_clocks, clocks_of}
-use Rattle.net_core.specs.Valid.{AreApart, Each, ReadFits, WriteFits, MemFits, silent_nodes, IsValid}
+use Rattle.net_core.specs.Ports.{Interface, wire_bits, bits_of_pins, read_clock, mem_clocks, ram_clocks, clocks_of}
+use Rattle.net_core.specs.Valid.{AreApart, ReadFits, WriteFits, MemFits, silent_nodes, IsValid}
 use Rattle.net_core.proofs.Basics.{get_below}
 use Rattle.net_core.proofs.Ordering.{comb_place, reg_place, read_place, slot_place, each_node}
-use Rattle.net_core.proofs.Searching.{get_of_set, get_set_same, get_set_other}
+use Rattle.net_core.proofs.Searching.{get_of_set}
 use Rattle.net_edit.specs.Laws.{IsUndriven}
 use Rattle.net_edit.proofs.Lists.{Has, has_left, has_right, has_either, flat_has, has_flat}
 use Rattle.net_edit.proofs.Places.{place_of, place_found, place_missing}
 use Rattle.rewriting.specs.Reads.{with_read, IsRead}
-use Rattle.emu_read.specs.Joining.{IsInside, AreFreeNets, ReadJoins, with_port, OtherReadIsValid}
-use Rattle.emu_read.proofs.Joined.{count_join, is_silent, inout_wires, inout_pins, wire_inout, pin_inout, same_ram}
+use Rattle.emu_read.specs.Joining.{AreFreeNets, ReadJoins, with_port, OtherReadIsValid}
+use Rattle.emu_read.proofs.Joined.{count_join, is_silent, wire_inout, pin_inout, same_ram}
 
 -- ---- a list with another item at a place
 
@@ -133,18 +129,25 @@ module _ (modules : List Interface) (m : Module) (k j : ℕ) (x : Mem) (p q : Rd
     where
       told : one.driver n ≡ ReadOut k j b
       told = one.reads k x is.mem j p is.read b n at
+
       no_input : (a : ℕ) → Input a ≡ ReadOut k j b → ⊥
       no_input a e = cc
+
       no_comb : (i a : ℕ) → CombOut i a ≡ ReadOut k j b → ⊥
       no_comb i a e = cc
+
       no_reg : (i a : ℕ) → RegOut i a ≡ ReadOut k j b → ⊥
       no_reg i a e = cc
+
       no_slot : (i l a : ℕ) → SlotOut i l a ≡ ReadOut k j b → ⊥
       no_slot i l a e = cc
+
       same_mem : (i l a : ℕ) → ReadOut i l a ≡ ReadOut k j b → i ≡ k
       same_mem i l a e = cc
+
       same_read : (i l a : ℕ) → ReadOut i l a ≡ ReadOut k j b → l ≡ j
       same_read i l a e = cc
+
       reads_off : (i : ℕ) (y : Mem) → slice_get new.mems i ≡ Some y → (l : ℕ) (r : RdPort) → slice_get y.reads l ≡ Some r → Drives (read_node r) n → ⊥
       reads_off i y there l r here (a, h) = elim (get_of_set m.mems k i port y mem_there there) [
         | inl (e, same) ↦ elim (get_of_set x.reads j l q r read_there (ap (λ (z : Mem). slice_get z.reads l) same ∙ here)) [

@@ -1,11 +1,10 @@
 -- Memories and reads by their places, and new nets in three steps.
-use Rattle.std.proofs.Common.{◌≡◌, ℕ, zero, suc, ◌+◌, ◌-◌, ◌<◌, ◌≤◌, List, [], ◌∷◌, ◌++◌, length, set, take, drop, get_or, Some, refl, sym, ap, ◌∙◌, arith, append_assoc}
+use Rattle.std.proofs.Common.{◌≡◌, ℕ, zero, suc, ◌+◌, ◌-◌, ◌<◌, List, [], ◌∷◌, ◌++◌, length, set, take, drop, get_or, Some, refl, sym, ap, ◌∙◌, arith, append_assoc}
 use Rattle.std.specs.Prelude.{slice_get}
 use Rattle.std.proofs.lemmas.Option.{slice_get-get_or, same_Some}
 use Rattle.net_core.specs.declared.mems.Mem.{Mem}
 use Rattle.net_core.specs.declared.mems.RdPort.{RdPort}
-use Rattle.net_core.specs.declared.modules.Module.{Module}
-use Rattle.net_edit.specs.Edits.{Editing, with_nets, with_mems, spliced, on_netlist, bits_from, with_fresh}
+use Rattle.net_edit.specs.Edits.{Editing, with_mems, spliced, on_netlist, bits_from, with_fresh}
 use Rattle.net_gates.proofs.Composing.{bits_joined}
 use Rattle.rewriting.specs.Reads.{with_read, IsRead}
 use Rattle.emu_read.specs.Enable.{loads_always}

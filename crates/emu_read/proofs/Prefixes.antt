@@ -1,6 +1,5 @@
 -- What a module allows over some moments, it allows over the first of them.
-use Rattle.std.proofs.Common.{◌≡◌, ℕ, zero, suc, ◌<◌, List, [], ◌∷◌, take, Option, Some, None, refl, arith}
-use Rattle.std.specs.Prelude.{slice_get}
+use Rattle.std.proofs.Common.{ℕ, zero, suc, ◌<◌, List, [], ◌∷◌, take, Option, Some, None, arith}
 use Rattle.lib_core.specs.declared.library.Library.{Library}
 use Rattle.net_core.specs.declared.bits.Clock.{Clock}
 use Rattle.net_core.specs.declared.mems.RdPort.{RdPort}
@@ -53,10 +52,10 @@ module _ (n : ℕ) (events : List Happening) (v : Wave) where
           starts = h.starts;
           steps = λ t e at. h.steps t e (at_taken n events t e at).1;
           slots = λ a s here. (
-              λ used now t e at. (h.slots a s here).0 used now t e (at_taken n events t e at).1,
-              λ used later.
-                  let g = (h.slots a s here).1 used later in
-                  record { kept = g.kept; starts = g.starts; shows = λ t e at. g.shows t e (at_taken n events t e at).1; steps = λ t e at. g.steps t e (at_taken n events t e at).1 },
-            );
+            λ used now t e at. (h.slots a s here).0 used now t e (at_taken n events t e at).1,
+            λ used later.
+                let g = (h.slots a s here).1 used later in
+                record { kept = g.kept; starts = g.starts; shows = λ t e at. g.shows t e (at_taken n events t e at).1; steps = λ t e at. g.steps t e (at_taken n events t e at).1 },
+          );
         };
   }

@@ -1,19 +1,15 @@
 -- What a read keeps, told by what it shows; and what a register without resets shows.
-use Rattle.std.proofs.Common.{◌≡◌, ℕ, zero, suc, ◌+◌, Bool, true, false, cond, not, ◌&&◌, ◌||◌, List, [], ◌∷◌, map, Option, Some, None, refl, sym, ap, ◌∙◌, subst, arith, nat_eq}
+use Rattle.std.proofs.Common.{◌≡◌, ℕ, zero, suc, Bool, true, false, cond, List, Option, Some, None, refl, sym, ap, ◌∙◌, subst}
 use Rattle.std.specs.Prelude.{slice_get}
-use Rattle.std.specs.List.{list_any}
 use Rattle.lib_core.specs.declared.library.Tri.{Tri}
 use Rattle.lib_core.specs.declared.library.Tri.TheVariants as tri
 use Rattle.lib_core.specs.Rams.{tri_at}
-use Rattle.std.proofs.lemmas.Option.{same_Some}
-use Rattle.net_core.specs.declared.bits.Bit.{Bit}
-use Rattle.net_core.specs.declared.bits.Bit.TheVariants.{Zero, One, Net}
+use Rattle.net_core.specs.declared.bits.Bit.TheVariants.{Zero}
 use Rattle.net_core.specs.declared.bits.Clock.{Clock}
 use Rattle.net_core.specs.declared.mems.RdPort.{RdPort}
 use Rattle.net_core.specs.declared.mems.WrPort.{WrPort}
-use Rattle.net_core.specs.Memory.{Words, Frame, read_shows, read_next, ClockedAllows}
-use Rattle.net_core.specs.Values.{Valuation, Wave, Happening, At, value_of, values_of, bit_at, tri_of, Agrees, Shows, has_edge}
-use Rattle.net_gates.proofs.NewCell.{agrees_told}
+use Rattle.net_core.specs.Memory.{Words, Frame, read_next, ClockedAllows}
+use Rattle.net_core.specs.Values.{Wave, Happening, At, value_of, tri_of, Agrees}
 
 settled : (t : Tri) → (b : Bool) × Agrees t b
 settled tri.Zero = (false, refl)

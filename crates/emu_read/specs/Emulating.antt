@@ -1,5 +1,5 @@
 -- A read with what stands outside it, in the place of a read: when this is a rewriting of the memory.
-use Rattle.std.specs.Prelude.{◌≡◌, ℕ, suc, ◌+◌, ◌*◌, ◌<◌, ◌≤◌, true, false, cond, nat_lt, List, [], ◌++◌, length, Some, slice_get, set}
+use Rattle.std.specs.Prelude.{◌≡◌, ℕ, suc, ◌+◌, ◌*◌, ◌<◌, ◌≤◌, true, false, cond, nat_lt, List, ◌++◌, length, Some, slice_get, set}
 use Rattle.std.specs.List.{sum_by}
 use Rattle.lib_core.specs.declared.library.Library.{Library}
 use Rattle.net_core.specs.declared.bits.Clock.{Clock}
@@ -15,7 +15,6 @@ use Rattle.net_core.specs.Ports.{Interface, inputs_of}
 use Rattle.net_core.specs.Runs.{Run}
 use Rattle.net_core.specs.Valid.{IsValid}
 use Rattle.net_core.specs.Values.{Valuation, Wave, Happening, At, value_of, values_of, bit_at}
-use Rattle.net_edit.specs.Laws.{IsKnownClock}
 use Rattle.net_gates.specs.Adds.{IsWithin}
 use Rattle.rewriting.specs.Keeping.{Lost}
 use Rattle.rewriting.specs.Known.{QuietWith}

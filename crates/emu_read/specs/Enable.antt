@@ -1,5 +1,5 @@
 -- A read with an enable, made of one that loads at each edge: the last data while it is not enabled are kept outside.
-use Rattle.std.specs.Prelude.{◌≡◌, ℕ, ◌+◌, ◌-◌, ◌*◌, ◌≤◌, ◌++◌, true, false, List, [], ◌∷◌, map, length, Some, nat_eq}
+use Rattle.std.specs.Prelude.{◌≡◌, ℕ, ◌+◌, ◌-◌, ◌*◌, ◌≤◌, ◌++◌, false, List, [], ◌∷◌, map, length, Some}
 use Rattle.lib_core.specs.declared.library.Library.{Library}
 use Rattle.lib_core.specs.declared.library.Tri.TheVariants.{Any}
 use Rattle.net_core.specs.declared.bits.Bit.{Bit}
@@ -124,6 +124,17 @@ pub record CanEmulate (m : Module) (k j : ℕ) : Type 0 where
   pub is : IsRead m k j mem port
   pub clocked : port.clock ≡ Some clock
   pub room : m.nets + 4 * read_bits mem port ≤ 67108864
+
+-- What the call takes of a read before it is changed.
+pub record Outlines (m : Module) (k j : ℕ) (clock : Clock) (en : Bit) (out : List ℕ) (width : ℕ) : Type 0 where
+  pub mem : Mem
+  pub port : RdPort
+  pub is : IsRead m k j mem port
+  pub clocked : port.clock ≡ Some clock
+  pub enable : en ≡ port.en
+  pub nets : out ≡ port.out
+  pub wide : width ≡ length port.out
+  pub room : m.nets + (width + width + 1) ≤ 67108864
 
 -- The new nets of an edit are read as themselves.
 abbrev pub HasNewNets : Editing → Editing → Type 0

@@ -1,5 +1,6 @@
 //! The enable of a clocked read.
-ghost use Rattle.std.specs.Prelude.{◌≡◌, ◌+◌, ◌≤◌, ◌<◌, ◌∷◌, [], length, map, slice_get, Some, IfOk, OnOk, IsSome};
+ghost use Rattle.std.specs.Prelude.{◌≡◌, ◌+◌, ◌^◌, ◌≤◌, ◌<◌, ◌∷◌, [], length, map, slice_get, Some, IfOk, OnOk, IsSome};
+ghost use Rattle.net_core.specs.declared.bits.Clock.{Clock as ClockValue};
 ghost use Rattle.net_core.specs.declared.mems.Mem.{Mem as MemValue};
 ghost use Rattle.net_core.specs.declared.mems.RdPort.{RdPort as ReadValue};
 ghost use Rattle.net_edit.specs.Edits as edits;
@@ -246,5 +247,84 @@ fn add_cells(
     add_plain(alloc, edit, clock, flag, loaded)?;
     add_plain(alloc, edit, clock, shown, held)?;
     add_choice(alloc, edit, low, high, select, out)?;
+    Ok(())
+}
+
+/// How many nets these are.
+fn width_of(nets: &[u32]) -> u32
+    requires { length nets.now < 2 ^ 32 }
+    ensures { result ≡ length nets.now }
+{
+    nets.len() as u32
+}
+
+/// What is taken of a read before it is changed.
+#[derive(Drop)]
+pub struct Outline {
+    pub clock: Clock,
+    pub en: Bit,
+    pub out: List<u32>,
+    pub width: u32,
+}
+
+/// What is taken of a read.
+fn taken_of(alloc: Global, edit: &Edit, mem: u32, read: u32) -> Result<Outline, Memory>
+    requires { spec.CanEmulate edit.now.netlist mem read }
+    ensures { IfOk result (λ o. spec.Outlines edit.now.netlist mem read o.clock o.en o.out o.width) }
+{
+    let memory = memory_at(edit, mem);
+    let port = port_at(memory, read);
+    let clock = clock_of(port);
+    let out = port.out.duplicate(alloc)?;
+    let width = width_of(out.as_slice());
+    Ok(Outline {
+        clock,
+        en: port.en,
+        out,
+        width,
+    })
+}
+
+/// The read without its enable, and the cells outside it.
+fn put_outside(
+    alloc: Global,
+    edit: &mut Edit,
+    mem: u32,
+    read: u32,
+    quiet: &[u32],
+    outline: Outline,
+) -> Result<(), Memory>
+    requires { spec.Outlines edit.old.netlist mem read outline.clock outline.en outline.out outline.width }
+    ensures { (x : MemValue) (p : ReadValue) (clock : ClockValue) → IsRead edit.old.netlist mem read x p → p.clock ≡ Some clock → IfOk result (λ _. spec.PutsOutside edit.old edit.new mem read x p clock quiet.now) }
+{
+    let Outline {
+        clock,
+        en,
+        out,
+        width,
+    } = outline;
+    let nets = nets_outside(edit, width)?;
+    let q = nets.q.duplicate(alloc)?;
+    free(alloc, edit, mem, read, quiet, q)?;
+    add_cells(alloc, edit, clock, en, out, nets)?;
+    Ok(())
+}
+
+/// Puts the enable of a clocked read outside it: the read loads at each edge into new nets, and its old
+/// nets are driven by logic that keeps what was shown last. Of the listed writes, which are never enabled
+/// together with the read, it may take any value. Without memory the module is left in part.
+pub fn emulate_enable(
+    alloc: Global,
+    edit: &mut Edit,
+    mem: u32,
+    read: u32,
+    quiet: &[u32],
+) -> Result<(), Memory>
+    requires { spec.CanEmulate edit.old.netlist mem read }
+    ensures rewrites { IfOk result (λ _. spec.EnableIsOutside quiet.now mem read edit.old.netlist edit.new.netlist) }
+    ensures reads { IfOk result (λ _. spec.HasNewNets edit.old edit.new) }
+{
+    let outline = taken_of(alloc, edit, mem, read)?;
+    put_outside(alloc, edit, mem, read, quiet, outline)?;
     Ok(())
 }

@@ -34,11 +34,7 @@ pub(crate) fn mask_without(
 
 /// The mask with the listed writes.
 #[tactic(auto, using(crate::proofs::MaskSteps::none_left, crate::proofs::MaskSteps::with_step))]
-pub(crate) fn mask_with(
-    alloc: Global,
-    writes: &[u32],
-    bits: &[bool],
-) -> Result<List<bool>, Memory>
+pub(crate) fn mask_with(alloc: Global, writes: &[u32], bits: &[bool]) -> Result<List<bool>, Memory>
     ensures { IfOk result (λ mask. mask ≡ reads.mask_with writes.now 0 bits.now) }
 {
     let mut mask = Vec::new(alloc);
