@@ -121,6 +121,13 @@ impl Edit {
         })
     }
 
+    /// The netlist so far.
+    pub fn netlist(&self) -> &Module
+        ensures { result.now ≡ self.now.netlist }
+    {
+        &self.module
+    }
+
     /// The module that was made: every reader of a net reads the bit that the edit has for it. It takes
     /// no memory.
     pub fn finish(self) -> Module

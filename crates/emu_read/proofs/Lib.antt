@@ -1,0 +1,13 @@
+pub mod Joined
+pub mod OtherRead
+pub mod Prefixes
+pub mod Emulated
+pub mod Stepping
+pub mod Masks
+pub mod Enabling
+pub mod Insides
+pub mod EnableValid
+pub mod EnableOutside
+pub mod MaskSteps
+pub mod Placing
+pub mod Outside

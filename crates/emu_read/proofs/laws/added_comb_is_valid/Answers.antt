@@ -1,0 +1,5 @@
+use Rattle.emu_read.proofs.Joined.{added_comb_is_valid}
+use Rattle.emu_read.proofs.laws.added_comb_is_valid.Goals as goal
+
+pub returns : goal.returns
+returns c = added_comb_is_valid
