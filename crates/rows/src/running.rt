@@ -46,17 +46,17 @@ pub fn run_all<R: Threads + Sync>(
     commands: &[Vec<String>],
     desk: &mut MemDesk,
 ) -> Result<Seen, Memory> {
-    let mut rest = commands;
+    let mut left = commands.len() as u64;
     let mut status = Status::Ok;
-    while let [command, tail @ ..] = rest {
-        rest = tail;
+    for command in commands {
+        left = left.saturating_sub(1);
         status = end_of(rt, alloc, command.as_slice(), desk);
         if status.exit_status() != 0 {
             break;
         }
     }
     Ok(Seen {
-        left: rest.len() as u64,
+        left,
         status: status.exit_status(),
         line: error_line(alloc, &status)?,
     })
